@@ -1,0 +1,72 @@
+-- Computed tests: that a rule holds at every number below a bound is one test, which the checker computes; a law turns the
+-- passed test into the rule at a number. Assumes nothing.
+use mathlib.Core.Path.{_≡_, refl}
+use mathlib.Core.Bool.{Bool, true, false, not, _&&_, _||_}
+use mathlib.Core.List.{List, [], _∷_}
+use Prim.Native.Nat.{ℕ, zero, suc, _<_}
+use native.Mathlib.Nat.{not-suc-le-zero}
+use native.Mathlib.Decide.{decLt}
+use native.Mathlib.Omega.{arith}
+use lib.Dec.{T, eqb, eqb→eq}
+use Rattle.word.specs.Choose.{pick}
+
+pub and-left : (a b : Bool) → T (a && b) → T a
+and-left true b t = tt
+and-left false b t = t
+
+pub and-right : (a b : Bool) → T (a && b) → T b
+and-right true b t = t
+and-right false b t = absurd t
+
+-- a test that passes under a condition, where the condition holds
+pub under : (a b : Bool) → T (not a || b) → a ≡ true → T b
+under a b t e = rw e at t
+
+-- a number below n + 1 is n or below n
+top-or-below : (P : ℕ → Type 0) (n k : ℕ) → k < suc n → P n → (k < n → P k) → P k
+top-or-below P n k h top rest = go (decLt k n)
+  where
+    go : Dec (k < n) → P k
+    go (yes l) = rest l
+    go (no d) = let e : k ≡ n = omega arith in rw e top
+
+-- f passes at every number below n
+abbrev pub below : (ℕ → Bool) → ℕ → Bool
+below f zero = true
+below f (suc n) = f n && below f n
+
+pub at : (f : ℕ → Bool) (n : ℕ) → T (below f n) → (k : ℕ) → k < n → T (f k)
+at f zero t k h = absurd (not-suc-le-zero h)
+at f (suc n) t k h =
+    top-or-below (λ x. T (f x)) n k h (and-left (f n) (below f n) t) (λ l. at f n (and-right (f n) (below f n) t) k l)
+
+-- two functions agree below n
+pub agree : (f g : ℕ → ℕ) (n : ℕ) → T (below (λ k. eqb (f k) (g k)) n) → (k : ℕ) → k < n → f k ≡ g k
+agree f g n t k h = eqb→eq (f k) (g k) (at (λ x. eqb (f x) (g x)) n t k h)
+
+-- the numbers below n at which f fails
+abbrev pub fails : (ℕ → Bool) → ℕ → List ℕ
+fails f zero = []
+fails f (suc n) = pick (f n) (fails f n) (n ∷ fails f n)
+
+-- k is none of these
+abbrev pub NoneOf : ℕ → List ℕ → Type 0
+NoneOf k [] = Unit {0}
+NoneOf k (x ∷ xs) = (k ≡ x → ⊥) × NoneOf k xs
+
+none-here : (b : Bool) (k : ℕ) (l : List ℕ) → NoneOf k (pick b l (k ∷ l)) → T b
+none-here true k l d = tt
+none-here false k l d = d .0 refl
+
+none-later : (b : Bool) (k n : ℕ) (l : List ℕ) → NoneOf k (pick b l (n ∷ l)) → NoneOf k l
+none-later true k n l d = d
+none-later false k n l d = d .1
+
+-- f passes at a number below n that is none of those at which it fails: the facts at hand refute each of these
+pub else-passes : (f : ℕ → Bool) (n k : ℕ) → k < n → NoneOf k (fails f n) → T (f k)
+else-passes f zero k h d = absurd (not-suc-le-zero h)
+else-passes f (suc n) k h d =
+    top-or-below (λ x. NoneOf x (fails f (suc n)) → T (f x)) n k h
+    (λ e. none-here (f n) n (fails f n) e)
+    (λ l e. else-passes f n k l (none-later (f n) k n (fails f n) e))
+    d

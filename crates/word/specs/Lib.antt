@@ -1,0 +1,4 @@
+pub mod Choose
+pub mod Computed
+pub mod Fields
+pub mod Words
