@@ -1,6 +1,6 @@
 -- An operand byte's displacement as the code computes it: each fact at all 256 bytes by one computed test.
 -- Assumes nothing.
-use mathlib.Core.Path.{_≡_, ap}
+use mathlib.Core.Path.{_≡_, refl, ap}
 use mathlib.Core.Bool.{Bool, true, false, not, _||_}
 use Prim.Native.Nat.{ℕ, _+_, _-_, _^_, _<_, _≤_, _%_}
 use native.Mathlib.Omega.{arith}
@@ -61,7 +61,7 @@ up-positive b h = at (λ x. nonNeg (at16 (at16 (dispOf x) +ℤ pos 256))) 256 tt
 
 pub up-is : (b : ℕ) → b < 256 → natAbs (at16 (at16 (dispOf b) +ℤ pos 256)) ≡ (b + 128) % 256 + 128
 unfolding dispOf
-up-is b h = agree (λ x. natAbs (at16 (at16 (dispOf x) +ℤ pos 256))) (λ x. (x + 128) % 256 + 128) 256 tt b h
+up-is b h = agree (λ x. natAbs (at16 (at16 (dispOf x) +ℤ pos 256))) (λ x. (x + 128) % 256 + 128) 256 refl b h
 
 pub moves : (w b : ℕ) → b < 256 → plus (plus w ((b + 128) % 256 + 128)) 65280 ≡ movedBy w (dispOf b)
 unfolding dispOf movedBy

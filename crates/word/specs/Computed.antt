@@ -3,11 +3,12 @@
 use mathlib.Core.Path.{_≡_, refl}
 use mathlib.Core.Bool.{Bool, true, false, not, _&&_, _||_}
 use mathlib.Core.List.{List, [], _∷_}
-use Prim.Native.Nat.{ℕ, zero, suc, _<_}
+use Prim.Native.Nat.{ℕ, zero, suc, _≤_, _<_}
 use native.Mathlib.Nat.{not-suc-le-zero}
 use native.Mathlib.Decide.{decLt}
 use native.Mathlib.Omega.{arith}
-use lib.Dec.{T, eqb, eqb→eq}
+use borrow.Author.Tests.{le-ltb}
+use lib.Dec.{T, eqb, ltb, eqb→eq}
 use Rattle.word.specs.Choose.{pick}
 
 pub and-left : (a b : Bool) → T (a && b) → T a
@@ -40,27 +41,23 @@ at f zero t k h = absurd (not-suc-le-zero h)
 at f (suc n) t k h =
     top-or-below (λ x. T (f x)) n k h (and-left (f n) (below f n) t) (λ l. at f n (and-right (f n) (below f n) t) k l)
 
--- two functions agree below n
-pub agree : (f g : ℕ → ℕ) (n : ℕ) → T (below (λ k. eqb (f k) (g k)) n) → (k : ℕ) → k < n → f k ≡ g k
-agree f g n t k h = eqb→eq (f k) (g k) (at (λ x. eqb (f x) (g x)) n t k h)
-
 -- the numbers below n at which f fails
 abbrev pub fails : (ℕ → Bool) → ℕ → List ℕ
 fails f zero = []
 fails f (suc n) = pick (f n) (fails f n) (n ∷ fails f n)
 
--- k is none of these
+-- k is none of these. (The shape of what is known in the last arm of a `match` on numbers.)
 abbrev pub NoneOf : ℕ → List ℕ → Type 0
 NoneOf k [] = Unit {0}
-NoneOf k (x ∷ xs) = (k ≡ x → ⊥) × NoneOf k xs
+NoneOf k (x ∷ xs) = NoneOf k xs × (k ≡ x → ⊥)
 
 none-here : (b : Bool) (k : ℕ) (l : List ℕ) → NoneOf k (pick b l (k ∷ l)) → T b
 none-here true k l d = tt
-none-here false k l d = d .0 refl
+none-here false k l d = d .1 refl
 
 none-later : (b : Bool) (k n : ℕ) (l : List ℕ) → NoneOf k (pick b l (n ∷ l)) → NoneOf k l
 none-later true k n l d = d
-none-later false k n l d = d .1
+none-later false k n l d = d .0
 
 -- f passes at a number below n that is none of those at which it fails: the facts at hand refute each of these
 pub else-passes : (f : ℕ → Bool) (n k : ℕ) → k < n → NoneOf k (fails f n) → T (f k)
@@ -70,3 +67,24 @@ else-passes f (suc n) k h d =
     (λ e. none-here (f n) n (fails f n) e)
     (λ l e. else-passes f n k l (none-later (f n) k n (fails f n) e))
     d
+
+-- a number from i to n that is none of i to n - 1
+pub last : (i n k : ℕ) → i ≤ k → k < suc n → NoneOf k (fails (λ x. ltb x i || eqb x n) (suc n)) → k ≡ n
+last i n k h l d =
+    eqb→eq k n (rw (le-ltb k i h) at (else-passes (λ x. ltb x i || eqb x n) (suc n) k l d))
+
+-- the values of f below n
+abbrev pub made : {A : Type 0} → (ℕ → A) → ℕ → List A
+made f zero = []
+made f (suc n) = f n ∷ made f n
+
+head-is : {A : Type 0} {x y : A} {l m : List A} → x ∷ l ≡ y ∷ m → x ≡ y
+head-is e = cc
+
+tail-is : {A : Type 0} {x y : A} {l m : List A} → x ∷ l ≡ y ∷ m → l ≡ m
+tail-is e = cc
+
+-- two functions whose values are the same list, which the checker computes, agree at each number below n
+pub agree : {A : Type 0} (f g : ℕ → A) (n : ℕ) → made f n ≡ made g n → (k : ℕ) → k < n → f k ≡ g k
+agree f g zero e k h = absurd (not-suc-le-zero h)
+agree f g (suc n) e k h = top-or-below (λ x. f x ≡ g x) n k h (head-is e) (λ l. agree f g n (tail-is e) k l)

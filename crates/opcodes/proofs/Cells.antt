@@ -1,0 +1,40 @@
+-- A part of a map of 16 rows of 16 compared with what the code answers there, by computing both. Assumes nothing.
+use mathlib.Core.Path.{_≡_, refl}
+use mathlib.Core.Bool.{Bool, true, false, not}
+use mathlib.Core.List.{List}
+use Prim.Native.Nat.{ℕ, _+_, _-_, _*_, _≤_, _<_}
+use native.Mathlib.Omega.{arith}
+use lib.Dec.{T}
+use Rattle.word.specs.Fields.{upper, lower}
+use Rattle.word.specs.Computed.{made, agree, fails, NoneOf, else-passes}
+use Rattle.opcodes.specs.declared.Entry.{Entry}
+use Rattle.opcodes.specs.declared.Entry.the-variants.{Blank, Of}
+use Rattle.opcodes.specs.Map.{entryOf}
+use Rattle.opcodes.specs.Instruction.{defined}
+
+-- f, of an upper and a lower nibble, in the m columns from j of the n rows from i
+abbrev pub part : {A : Type 0} → ℕ → ℕ → ℕ → ℕ → (ℕ → ℕ → A) → List (List A)
+part i n j m f = made (λ a. made (λ b. f (i + a) (j + b)) m) n
+
+-- where f is what g has throughout a part, f of an opcode's nibbles is what g has at the opcode
+pub in-part : {A : Type 0} (f : ℕ → ℕ → A) (g : ℕ → A) (i n j m op : ℕ) → (i ≤ upper op) × (upper op < i + n)
+    → (j ≤ lower op) × (lower op < j + m) → part i n j m f ≡ part i n j m (λ hi lo. g (hi * 16 + lo)) → f (upper op) (lower op) ≡ g op
+in-part f g i n j m op u l e =
+    let a : i + (upper op - i) ≡ upper op = omega arith in
+    let b : j + (lower op - j) ≡ lower op = omega arith in
+    let w : upper op * 16 + lower op ≡ op = omega arith in
+    let row =
+    agree (λ a. made (λ b. f (i + a) (j + b)) m) (λ a. made (λ b. g ((i + a) * 16 + (j + b))) m) n e (upper op - i) (omega arith) in
+    let cell =
+    agree (λ b. f (i + (upper op - i)) (j + b)) (λ b. g ((i + (upper op - i)) * 16 + (j + b))) m row (lower op - j) (omega arith) in
+    rw (a, b, w) at cell
+
+-- a test passes in row hi at a column that is none of those where it fails
+pub else-in-row : (f : ℕ → Bool) (hi op : ℕ) → upper op ≡ hi → NoneOf (lower op) (fails (λ lo. f (hi * 16 + lo)) 16) → T (f op)
+else-in-row f hi op h d =
+    let w : hi * 16 + lower op ≡ op = omega arith in
+    rw w at (else-passes (λ lo. f (hi * 16 + lo)) 16 (lower op) (omega arith) d)
+
+pub blank-is : (e : Entry) → T (not (defined e)) → Blank ≡ e
+blank-is Blank t = refl
+blank-is (Of k) t = absurd t

@@ -1,0 +1,54 @@
+-- The execution cycles of the opcode map, as printed: the first figure in each of its cells. Two figures are two outcomes: of
+-- DJNZ, JR and JP cc the jump taken and not taken, of PUSH the stack inside (the register file) and outside (data memory).
+-- Where the sheets' maps differ, chapter 5 decides: DA @R is 8, SWAP is 8. Assumes nothing.
+use Prim.Native.Nat.{ℕ}
+use mathlib.Core.Bool.{Bool}
+use mathlib.Core.List.{List, [], _∷_}
+use lib.ListN.{getD}
+use Rattle.word.specs.Choose.{pick}
+use Rattle.word.specs.Fields.{upper, lower}
+
+pub data Figure : Type 0 where
+  always : ℕ → Figure
+  _or_ : ℕ → ℕ → Figure
+  blank : Figure
+
+-- one figure in a row, where two figures are `12 or 10 ∷` and a blank area is `blank ∷`
+infixr 67 _│_
+infix 70 _or_
+abbrev _│_ : ℕ → List Figure → List Figure
+n │ fs = always n ∷ fs
+
+-- columns 8 to E, the same in all rows, and column F
+abbrev across : Figure → List Figure
+across alone = 6 │ 6 │ 12 or 10 ∷ 12 or 10 ∷ 6 │ 12 or 10 ∷ 6 │ alone ∷ []
+
+unfoldable pub cycleMap : List (List Figure)
+cycleMap =
+    (6 │ 6 │ 6 │ 6 │ 10 │ 10 │ 10 │ 10 │ across blank)
+    ∷ (6 │ 6 │ 6 │ 6 │ 10 │ 10 │ 10 │ 10 │ across blank)
+    ∷ (6 │ 6 │ 6 │ 6 │ 10 │ 10 │ 10 │ 10 │ across blank)
+    ∷ (8 │ 6 │ 6 │ 6 │ 10 │ 10 │ 10 │ 10 │ across blank)
+    ∷ (8 │ 8 │ 6 │ 6 │ 10 │ 10 │ 10 │ 10 │ across blank)
+    ∷ (10 │ 10 │ 6 │ 6 │ 10 │ 10 │ 10 │ 10 │ across blank)
+    ∷ (6 │ 6 │ 6 │ 6 │ 10 │ 10 │ 10 │ 10 │ across blank)
+    ∷ (10 or 12 ∷ 12 or 14 ∷ 6 │ 6 │ 10 │ 10 │ 10 │ 10 │ across blank)
+    ∷ (10 │ 10 │ 12 │ 18 │ blank ∷ blank ∷ blank ∷ blank ∷ across (always 6))
+    ∷ (6 │ 6 │ 12 │ 18 │ blank ∷ blank ∷ blank ∷ blank ∷ across (always 6))
+    ∷ (10 │ 10 │ 6 │ 6 │ 10 │ 10 │ 10 │ 10 │ across (always 14))
+    ∷ (6 │ 6 │ 6 │ 6 │ 10 │ 10 │ 10 │ 10 │ across (always 16))
+    ∷ (6 │ 6 │ 12 │ 18 │ blank ∷ blank ∷ blank ∷ 10 │ across (always 6))
+    ∷ (6 │ 6 │ 12 │ 18 │ 20 │ blank ∷ 20 │ 10 │ across (always 6))
+    ∷ (6 │ 6 │ blank ∷ 6 │ 10 │ 10 │ 10 │ 10 │ across (always 6))
+    ∷ (8 │ 8 │ blank ∷ 6 │ blank ∷ 10 │ blank ∷ blank ∷ across (always 6))
+    ∷ []
+
+-- a figure by its outcome: the first, or the second. A blank area costs nothing, as it is never executed.
+abbrev pub figure : Figure → Bool → ℕ
+figure (always n) first = n
+figure (a or b) first = pick first a b
+figure blank first = 0
+
+-- the cycles of an opcode, by the outcome: the jump taken, or the stack inside, is the first
+unfoldable pub cyclesOf : ℕ → Bool → ℕ
+cyclesOf op first = figure (getD (getD cycleMap (upper op) []) (lower op) blank) first

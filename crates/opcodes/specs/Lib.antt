@@ -1,0 +1,3 @@
+pub mod Map
+pub mod Cycles
+pub mod Instruction

@@ -1,0 +1,142 @@
+-- The opcode map of 004, Appendix C, as printed: a row for each upper nibble of the opcode, a column for each lower one. Each
+-- entry gives the kind of instruction, its mnemonic and its address modes (5.4), destination first; "the blank areas are not
+-- defined". Where our copy of Appendix C has lost rows, the maps of 000 and 003 have them. Assumes nothing.
+use Prim.Native.Nat.{ℕ, _-_, _%_}
+use mathlib.Core.Bool.{Bool, true, false}
+use mathlib.Core.List.{List, [], _∷_}
+use lib.Dec.{eqb}
+use lib.ListN.{getD}
+use Rattle.word.specs.Choose.{pick}
+use Rattle.word.specs.Fields.{upper, lower}
+use Rattle.opcodes.specs.declared.Entry.{Entry}
+use Rattle.opcodes.specs.declared.Entry.the-variants.{Blank, Of}
+use Rattle.opcodes.specs.declared.Kind.{Kind}
+use Rattle.opcodes.specs.declared.Kind.the-variants.{Adc, Add, And, Call, Ccf, Clr, Com, Cp, Da, Dec, Decw, Di, Djnz, Ei, Inc, Incw, Iret, Jp, Jr, Ld, Ldc, Ldci, Lde, Ldei, Nop, Or, Pop, Push, Rcf, Ret, Rl, Rlc, Rr, Rrc, Sbc, Scf, Sra, Srp, Sub, Swap, Tcm, Tm, Xor}
+use Rattle.opcodes.specs.declared.One.{One}
+use Rattle.opcodes.specs.declared.One.the-variants as one
+use Rattle.opcodes.specs.declared.Two.{Two}
+use Rattle.opcodes.specs.declared.Two.the-variants as two
+use Rattle.opcodes.specs.declared.Way.{Way}
+use Rattle.opcodes.specs.declared.Way.the-variants as way
+use Rattle.opcodes.specs.declared.Target.{Target}
+use Rattle.opcodes.specs.declared.Target.the-variants as target
+
+-- The address modes, under the names of 5.4.
+
+-- one operand: a working register, a register (RR: a pair), an indirect register
+abbrev pub r : One
+r = one.Work
+
+abbrev pub R : One
+R = one.Reg
+
+abbrev pub RR : One
+RR = one.Reg
+
+abbrev pub IR : One
+IR = one.Ind
+
+-- two operands, destination and source; X is an indexed register, IM an immediate byte
+abbrev pub r-r : Two
+r-r = two.WorkWork
+
+abbrev pub r-Ir : Two
+r-Ir = two.WorkInd
+
+abbrev pub R-R : Two
+R-R = two.RegReg
+
+abbrev pub R-IR : Two
+R-IR = two.RegInd
+
+abbrev pub R-IM : Two
+R-IM = two.RegImm
+
+abbrev pub IR-IM : Two
+IR-IM = two.IndImm
+
+abbrev pub r-IM : Two
+r-IM = two.WorkImm
+
+abbrev pub r-R : Two
+r-R = two.WorkReg
+
+abbrev pub R-r : Two
+R-r = two.RegWork
+
+abbrev pub r-X : Two
+r-X = two.WorkIndexed
+
+abbrev pub X-r : Two
+X-r = two.IndexedWork
+
+abbrev pub Ir-r : Two
+Ir-r = two.IndWork
+
+abbrev pub IR-R : Two
+IR-R = two.IndReg
+
+-- a register and memory at an indirect working-register pair
+abbrev pub r-Irr : Way
+r-Irr = way.In
+
+abbrev pub Ir-Irr : Way
+Ir-Irr = way.In
+
+abbrev pub Irr-r : Way
+Irr-r = way.Out
+
+abbrev pub Irr-Ir : Way
+Irr-Ir = way.Out
+
+-- a jump's or a call's destination: a direct address, an indirect register pair
+abbrev pub DA : Target
+DA = target.Direct
+
+abbrev pub IRR : Target
+IRR = target.Pair
+
+-- an instruction in a row, where a blank area is `Blank ∷`
+infixr 67 _│_
+abbrev _│_ : Kind → List Entry → List Entry
+k │ es = Of k ∷ es
+
+-- columns 8 to E, which the manual prints once for all rows (DJNZ r,RA; JR cc,RA; JP cc,DA), and column F
+abbrev across : Entry → List Entry
+across alone = Ld r-R │ Ld R-r │ Djnz │ Jr │ Ld r-IM │ Jp DA │ Inc r │ alone ∷ []
+
+unfoldable pub opcodeMap : List (List Entry)
+opcodeMap =
+    (Dec R │ Dec IR │ Add r-r │ Add r-Ir │ Add R-R │ Add R-IR │ Add R-IM │ Add IR-IM │ across Blank)
+    ∷ (Rlc R │ Rlc IR │ Adc r-r │ Adc r-Ir │ Adc R-R │ Adc R-IR │ Adc R-IM │ Adc IR-IM │ across Blank)
+    ∷ (Inc R │ Inc IR │ Sub r-r │ Sub r-Ir │ Sub R-R │ Sub R-IR │ Sub R-IM │ Sub IR-IM │ across Blank)
+    ∷ (Jp IRR │ Srp │ Sbc r-r │ Sbc r-Ir │ Sbc R-R │ Sbc R-IR │ Sbc R-IM │ Sbc IR-IM │ across Blank)
+    ∷ (Da R │ Da IR │ Or r-r │ Or r-Ir │ Or R-R │ Or R-IR │ Or R-IM │ Or IR-IM │ across Blank)
+    ∷ (Pop R │ Pop IR │ And r-r │ And r-Ir │ And R-R │ And R-IR │ And R-IM │ And IR-IM │ across Blank)
+    ∷ (Com R │ Com IR │ Tcm r-r │ Tcm r-Ir │ Tcm R-R │ Tcm R-IR │ Tcm R-IM │ Tcm IR-IM │ across Blank)
+    ∷ (Push R │ Push IR │ Tm r-r │ Tm r-Ir │ Tm R-R │ Tm R-IR │ Tm R-IM │ Tm IR-IM │ across Blank)
+    ∷ (Decw RR │ Decw IR │ Lde r-Irr │ Ldei Ir-Irr │ Blank ∷ Blank ∷ Blank ∷ Blank ∷ across (Of Di))
+    ∷ (Rl R │ Rl IR │ Lde Irr-r │ Ldei Irr-Ir │ Blank ∷ Blank ∷ Blank ∷ Blank ∷ across (Of Ei))
+    ∷ (Incw RR │ Incw IR │ Cp r-r │ Cp r-Ir │ Cp R-R │ Cp R-IR │ Cp R-IM │ Cp IR-IM │ across (Of Ret))
+    ∷ (Clr R │ Clr IR │ Xor r-r │ Xor r-Ir │ Xor R-R │ Xor R-IR │ Xor R-IM │ Xor IR-IM │ across (Of Iret))
+    ∷ (Rrc R │ Rrc IR │ Ldc r-Irr │ Ldci Ir-Irr │ Blank ∷ Blank ∷ Blank ∷ Ld r-X │ across (Of Rcf))
+    ∷ (Sra R │ Sra IR │ Ldc Irr-r │ Ldci Irr-Ir │ Call IRR │ Blank ∷ Call DA │ Ld X-r │ across (Of Scf))
+    ∷ (Rr R │ Rr IR │ Blank ∷ Ld r-Ir │ Ld R-R │ Ld R-IR │ Ld R-IM │ Ld IR-IM │ across (Of Ccf))
+    ∷ (Swap R │ Swap IR │ Blank ∷ Ld Ir-r │ Blank ∷ Ld IR-R │ Blank ∷ Blank ∷ across (Of Nop))
+    ∷ []
+
+-- what the map has at an opcode
+unfoldable pub entryOf : ℕ → Entry
+entryOf op = getD (getD opcodeMap (upper op) []) (lower op) Blank
+
+-- the address mode in columns 0 and 1
+abbrev pub oneMode : ℕ → One
+oneMode lo = pick (eqb lo 0) R IR
+
+-- the address modes in columns 2 to 7 of an instruction that has all six of them (5.5, note 1)
+abbrev pub twoModes : ℕ → Two
+twoModes lo = getD (r-r ∷ r-Ir ∷ R-R ∷ R-IR ∷ R-IM ∷ IR-IM ∷ []) (lo - 2) IR-IM
+
+-- the way in rows 8 and 9, C and D
+abbrev pub wayOf : ℕ → Way
+wayOf hi = pick (eqb (hi % 2) 0) way.In way.Out
