@@ -6,7 +6,7 @@ use Prim.Native.Nat.{ℕ, _+_, _-_, _*_, _≤_, _<_}
 use native.Mathlib.Omega.{arith}
 use lib.Dec.{T}
 use Rattle.word.specs.Fields.{upper, lower}
-use Rattle.word.specs.Computed.{made, agree, fails, NoneOf, else-passes}
+use Rattle.word.proofs.Computed.{made, agree, fails, NoneOf, else-passes}
 use Rattle.opcodes.specs.declared.Entry.{Entry}
 use Rattle.opcodes.specs.declared.Entry.the-variants.{Blank, Of}
 use Rattle.opcodes.specs.Map.{entryOf}

@@ -1,4 +1,3 @@
 pub mod Choose
-pub mod Computed
 pub mod Fields
 pub mod Words

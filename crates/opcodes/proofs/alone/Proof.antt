@@ -9,7 +9,7 @@ use mathlib.Core.Path.{_≡_, refl}
 use Rattle.opcodes.specs.Map.{entryOf, opcodeMap}
 use Rattle.opcodes.specs.declared.Kind.the-variants.{Di, Ei, Ret, Iret, Rcf, Scf, Ccf, Nop}
 use Rattle.opcodes.specs.declared.Entry.the-variants.{Blank, Of}
-use Rattle.word.specs.Computed.{last}
+use Rattle.word.proofs.Computed.{last}
 use Rattle.opcodes.proofs.Cells.{in-part}
 
 -- src/lib.rt:345:9

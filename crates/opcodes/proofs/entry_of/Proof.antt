@@ -12,7 +12,7 @@ use mathlib.Core.Path.{_≡_, refl}
 use Rattle.opcodes.specs.Map.{entryOf, opcodeMap, r, r-R, R-r, r-IM, DA}
 use Rattle.opcodes.specs.declared.Kind.the-variants.{Ld, Djnz, Jr, Jp, Inc}
 use Rattle.opcodes.specs.declared.Entry.the-variants.{Of}
-use Rattle.word.specs.Computed.{last}
+use Rattle.word.proofs.Computed.{last}
 use Rattle.opcodes.proofs.Cells.{in-part}
 
 -- src/lib.rt:134:9

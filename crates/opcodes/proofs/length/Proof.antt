@@ -11,7 +11,7 @@ use borrow.Author.Tests.{ne-eqb}
 use lib.Dec.{eqb, eqb→eq}
 use lib.ListN.{getD}
 use Rattle.word.specs.Fields.{lower}
-use Rattle.word.specs.Computed.{fails, NoneOf, else-passes}
+use Rattle.word.proofs.Computed.{fails, NoneOf, else-passes}
 use Rattle.opcodes.specs.Instruction.{lengthOf, lengths}
 
 -- the length by a low nibble that is none of those with another length

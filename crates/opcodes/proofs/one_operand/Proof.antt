@@ -11,7 +11,7 @@ use mathlib.Core.Path.{_≡_, refl}
 use Rattle.opcodes.specs.Map.{entryOf, opcodeMap, oneMode, IRR}
 use Rattle.opcodes.specs.declared.Kind.the-variants.{Dec, Rlc, Inc, Da, Pop, Com, Push, Decw, Rl, Incw, Clr, Rrc, Sra, Rr, Swap, Jp, Srp}
 use Rattle.opcodes.specs.declared.Entry.the-variants.{Of}
-use Rattle.word.specs.Computed.{last}
+use Rattle.word.proofs.Computed.{last}
 use Rattle.opcodes.proofs.Cells.{in-part}
 
 -- src/lib.rt:161:9

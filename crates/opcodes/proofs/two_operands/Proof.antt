@@ -11,7 +11,7 @@ use mathlib.Core.Path.{_≡_, refl}
 use Rattle.opcodes.specs.Map.{entryOf, opcodeMap, twoModes}
 use Rattle.opcodes.specs.declared.Kind.the-variants.{Add, Adc, Sub, Sbc, Or, And, Tcm, Tm}
 use Rattle.opcodes.specs.declared.Entry.the-variants.{Of}
-use Rattle.word.specs.Computed.{last}
+use Rattle.word.proofs.Computed.{last}
 use Rattle.opcodes.proofs.Cells.{in-part}
 
 -- src/lib.rt:222:9

@@ -1,4 +1,4 @@
--- Computed tests: that a rule holds at every number below a bound is one test, which the checker computes; a law turns the
+-- Choices, and computed tests: that a rule holds at every number below a bound is one test, which the checker computes; a law turns the
 -- passed test into the rule at a number. Assumes nothing.
 use mathlib.Core.Path.{_≡_, refl}
 use mathlib.Core.Bool.{Bool, true, false, not, _&&_, _||_}
@@ -10,6 +10,11 @@ use native.Mathlib.Omega.{arith}
 use borrow.Author.Tests.{le-ltb}
 use lib.Dec.{T, eqb, ltb, eqb→eq}
 use Rattle.word.specs.Choose.{pick}
+
+-- what holds of both choices, each under its test's outcome, holds of the choice
+pub by-test : {A : Type 0} (P : A → Type 0) (b : Bool) {x y : A} → (b ≡ true → P x) → (b ≡ false → P y) → P (pick b x y)
+by-test P true f g = f refl
+by-test P false f g = g refl
 
 pub and-left : (a b : Bool) → T (a && b) → T a
 and-left true b t = tt
