@@ -1,0 +1,41 @@
+use borrow.Author.Needs.{needs}
+use Rattle.alu.proofs.conditions.holds.Statement.{statement}
+use Rattle.alu.proofs.conditions.holds.Tie as tie
+use Rattle.alu.proofs.conditions.holds.Reads as reads
+use Rattle.alu.proofs.conditions.holds.Lts as lts
+use Rattle.alu.proofs.conditions.low.Reads as low-reads
+use native.Mathlib.Omega.{arith}
+use mathlib.Core.Path.{_≡_, refl}
+use Prim.Native.Nat.{ℕ, _+_, _-_, _<_}
+use mathlib.Core.Bool.{not, xor}
+use Rattle.word.proofs.Computed.{made, agree}
+use Rattle.alu.specs.Conditions.{holdsOf}
+
+-- a code from 8 is the opposite of that 8 below, at all FLAGS bytes
+opposite : (k f : ℕ) → k < 8 → f < 256 → not (holdsOf k f) ≡ holdsOf (k + 8) f
+unfolding holdsOf xor
+opposite k f h l =
+    agree (λ k. not (holdsOf k f)) (λ k. holdsOf (k + 8) f) 8
+    (agree (λ f. made (λ k. not (holdsOf k f)) 8) (λ f. made (λ k. holdsOf (k + 8) f) 8) 256 refl f l) k h
+
+-- src/conditions.rt:32:17
+low-requires : tie.Need-low-requires
+low-requires c κs = search needs
+
+-- src/conditions.rt:32:38
+low-requires-2 : tie.Need-low-requires-2
+low-requires-2 c κs = search needs
+
+-- src/conditions.rt:28:1
+returns : tie.Need-returns
+returns c = search needs
+
+-- src/conditions.rt:28:1
+returns-2 : tie.Need-returns-2
+returns-2 c =
+    let cc = c .before .before .args .cc in
+    let e : cc - 8 + 8 ≡ cc = omega arith in
+    rw (c .low2 .ensures, opposite (cc - 8) (c .before .before .args .f) (omega arith) (omega arith), e)
+
+pub holds-spec : {M : Type 1} → statement M
+holds-spec = tie.close (tie.spec low-requires low-requires-2 returns returns-2)

@@ -1,0 +1,170 @@
+// ADC, ADD, CP, DEC, DECW, INC, INCW, SBC, SUB.
+use crate::Flags;
+use crate::Outcome;
+use crate::WordOutcome;
+ghost use mathlib.Core.Path.{_≡_};
+ghost use Prim.Native.Nat.{_<_};
+ghost use Rattle.alu.specs.FlagByte.{sign16};
+ghost use Rattle.alu.specs.Arithmetic.{sumOverflow, differenceOverflow, sumOf, addOf, adcOf, differenceOf, takenOf, subOf, sbcOf, cpOf, counted, incOf, decOf, incwOf, decwOf};
+
+// V of a sum, by the signs of destination, source and result.
+fn sum_overflow(dst: u8, src: u8, r: u8) -> u8
+    ensures is { λ v. ⌜ v ≡ sumOverflow dst src r ⌝ }
+    ensures bit { λ v. ⌜ v < 2 ⌝ }
+{
+    crate::one_if((dst == src) & (r != dst))
+}
+
+// V of a difference, by the signs of destination, source and result.
+fn difference_overflow(dst: u8, src: u8, r: u8) -> u8
+    ensures is { λ v. ⌜ v ≡ differenceOverflow dst src r ⌝ }
+    ensures bit { λ v. ⌜ v < 2 ⌝ }
+{
+    crate::one_if((dst != src) & (r == src))
+}
+
+// a + b + c
+fn sum(a: u8, b: u8, c: u8) -> Outcome
+    requires { ⌜ c < 2 ⌝ }
+    ensures { λ r. ⌜ r ≡ sumOf a b c ⌝ }
+{
+    let wide = a as u16 + b as u16 + c as u16;
+    let value = (wide % 256) as u8;
+    let carry = (wide / 256) as u8;
+    let half = (a % 16 + b % 16 + c) / 16;
+    let z = crate::one_if(value == 0);
+    let v = sum_overflow(a / 128, b / 128, value / 128);
+    let set = crate::pack(carry, z, value / 128, v, 0, half);
+    let flags = Flags {
+        affected: 0xFC,
+        set,
+    };
+    Outcome { value, flags }
+}
+
+pub fn add(a: u8, b: u8) -> Outcome
+    ensures { λ r. ⌜ r ≡ addOf a b ⌝ }
+{
+    sum(a, b, 0)
+}
+
+pub fn adc(a: u8, b: u8, read: u8) -> Outcome
+    ensures { λ r. ⌜ r ≡ adcOf a b read ⌝ }
+{
+    sum(a, b, word::bit(7, read))
+}
+
+// a - b - c, modulo 256
+fn difference(a: u8, b: u8, c: u8) -> u8
+    requires { ⌜ c < 2 ⌝ }
+    ensures { λ r. ⌜ r ≡ differenceOf a b c ⌝ }
+{
+    ((a as u16 + 256 - b as u16 - c as u16) % 256) as u8
+}
+
+// a - b - c
+fn taken(a: u8, b: u8, c: u8) -> Outcome
+    requires { ⌜ c < 2 ⌝ }
+    ensures { λ r. ⌜ r ≡ takenOf a b c ⌝ }
+{
+    let value = difference(a, b, c);
+    let borrow = crate::one_if((a as u16) < b as u16 + c as u16);
+    let half = crate::one_if(a % 16 < b % 16 + c);
+    let z = crate::one_if(value == 0);
+    let v = difference_overflow(a / 128, b / 128, value / 128);
+    let set = crate::pack(borrow, z, value / 128, v, 1, half);
+    let flags = Flags {
+        affected: 0xFC,
+        set,
+    };
+    Outcome { value, flags }
+}
+
+pub fn sub(a: u8, b: u8) -> Outcome
+    ensures { λ r. ⌜ r ≡ subOf a b ⌝ }
+{
+    taken(a, b, 0)
+}
+
+pub fn sbc(a: u8, b: u8, read: u8) -> Outcome
+    ensures { λ r. ⌜ r ≡ sbcOf a b read ⌝ }
+{
+    taken(a, b, word::bit(7, read))
+}
+
+pub fn cp(a: u8, b: u8) -> Flags
+    ensures { λ e. ⌜ e ≡ cpOf a b ⌝ }
+{
+    let r = difference(a, b, 0);
+    let borrow = crate::one_if(a < b);
+    let z = crate::one_if(r == 0);
+    let v = difference_overflow(a / 128, b / 128, r / 128);
+    let set = crate::pack(borrow, z, r / 128, v, 0, 0);
+    Flags {
+        affected: 0xF0,
+        set,
+    }
+}
+
+// Z, S and V alone.
+fn counted(z: u8, s: u8, v: u8) -> Flags
+    requires { ⌜ z < 2 ⌝ }
+    requires { ⌜ s < 2 ⌝ }
+    requires { ⌜ v < 2 ⌝ }
+    ensures { λ e. ⌜ e ≡ counted z s v ⌝ }
+{
+    let set = crate::pack(0, z, s, v, 0, 0);
+    Flags {
+        affected: 0x70,
+        set,
+    }
+}
+
+pub fn inc(a: u8) -> Outcome
+    ensures { λ r. ⌜ r ≡ incOf a ⌝ }
+{
+    let value = std::num::wrapping_add_u8(a, 1);
+    let z = crate::one_if(value == 0);
+    let v = sum_overflow(a / 128, 0, value / 128);
+    let flags = counted(z, value / 128, v);
+    Outcome { value, flags }
+}
+
+pub fn dec(a: u8) -> Outcome
+    ensures { λ r. ⌜ r ≡ decOf a ⌝ }
+{
+    let value = std::num::wrapping_add_u8(a, 255);
+    let z = crate::one_if(value == 0);
+    let v = difference_overflow(a / 128, 0, value / 128);
+    let flags = counted(z, value / 128, v);
+    Outcome { value, flags }
+}
+
+// The most significant bit of a word.
+fn sign16(w: u16) -> u8
+    ensures { λ r. ⌜ r ≡ sign16 w ⌝ }
+{
+    (w / 32768) as u8
+}
+
+pub fn incw(w: u16) -> WordOutcome
+    ensures { λ r. ⌜ r ≡ incwOf w ⌝ }
+{
+    let value = word::plus(w, 1);
+    let z = crate::one_if(value == 0);
+    let s = sign16(value);
+    let v = sum_overflow(sign16(w), 0, s);
+    let flags = counted(z, s, v);
+    WordOutcome { value, flags }
+}
+
+pub fn decw(w: u16) -> WordOutcome
+    ensures { λ r. ⌜ r ≡ decwOf w ⌝ }
+{
+    let value = word::plus(w, 65535);
+    let z = crate::one_if(value == 0);
+    let s = sign16(value);
+    let v = difference_overflow(sign16(w), 0, s);
+    let flags = counted(z, s, v);
+    WordOutcome { value, flags }
+}

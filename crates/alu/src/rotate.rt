@@ -1,0 +1,78 @@
+// RL, RLC, RR, RRC, SRA, SWAP.
+use crate::Flags;
+use crate::Outcome;
+ghost use mathlib.Core.Path.{_≡_};
+ghost use Prim.Native.Nat.{_<_};
+ghost use Rattle.alu.specs.Rotate.{rotateFlags, rlOf, rlcOf, rrOf, rrcOf, sraOf, swapOf};
+
+// After the rotation of a to r, with a bit rotated out.
+fn rotate_flags(out: u8, a: u8, r: u8) -> Flags
+    requires { ⌜ out < 2 ⌝ }
+    ensures { λ e. ⌜ e ≡ rotateFlags out a r ⌝ }
+{
+    let z = crate::one_if(r == 0);
+    let v = crate::one_if(a / 128 != r / 128);
+    let set = crate::pack(out, z, r / 128, v, 0, 0);
+    Flags {
+        affected: 0xF0,
+        set,
+    }
+}
+
+pub fn rl(a: u8) -> Outcome
+    ensures { λ r. ⌜ r ≡ rlOf a ⌝ }
+{
+    let value = a % 128 * 2 + a / 128;
+    let flags = rotate_flags(a / 128, a, value);
+    Outcome { value, flags }
+}
+
+pub fn rlc(a: u8, read: u8) -> Outcome
+    ensures { λ r. ⌜ r ≡ rlcOf a read ⌝ }
+{
+    let value = a % 128 * 2 + word::bit(7, read);
+    let flags = rotate_flags(a / 128, a, value);
+    Outcome { value, flags }
+}
+
+pub fn rr(a: u8) -> Outcome
+    ensures { λ r. ⌜ r ≡ rrOf a ⌝ }
+{
+    let value = a / 2 + a % 2 * 128;
+    let flags = rotate_flags(a % 2, a, value);
+    Outcome { value, flags }
+}
+
+pub fn rrc(a: u8, read: u8) -> Outcome
+    ensures { λ r. ⌜ r ≡ rrcOf a read ⌝ }
+{
+    let value = a / 2 + word::bit(7, read) * 128;
+    let flags = rotate_flags(a % 2, a, value);
+    Outcome { value, flags }
+}
+
+pub fn sra(a: u8) -> Outcome
+    ensures { λ r. ⌜ r ≡ sraOf a ⌝ }
+{
+    let value = a / 2 + a / 128 * 128;
+    let z = crate::one_if(value == 0);
+    let set = crate::pack(a % 2, z, value / 128, 0, 0, 0);
+    let flags = Flags {
+        affected: 0xF0,
+        set,
+    };
+    Outcome { value, flags }
+}
+
+pub fn swap(a: u8) -> Outcome
+    ensures { λ r. ⌜ r ≡ swapOf a ⌝ }
+{
+    let value = a % 16 * 16 + a / 16;
+    let z = crate::one_if(value == 0);
+    let set = crate::pack(0, z, value / 128, 0, 0, 0);
+    let flags = Flags {
+        affected: 0x60,
+        set,
+    };
+    Outcome { value, flags }
+}
