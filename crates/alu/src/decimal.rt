@@ -28,8 +28,8 @@ fn after_addition(v: u8, c: u8, h: u8) -> Adjusted
     requires { ⌜ h < 2 ⌝ }
     ensures { λ r. ⌜ r ≡ byRows afterAddition v c h ⌝ }
 {
-    let hi = word::upper(v);
-    let lo = word::lower(v);
+    let hi = v / 16;
+    let lo = v % 16;
     if (c == 0) & (hi <= 0x9) & (h == 0) & (lo <= 0x9) {
         return by(v, 0x00, 0);
     }
@@ -66,8 +66,8 @@ fn after_subtraction(v: u8, c: u8, h: u8) -> Adjusted
     requires { ⌜ h < 2 ⌝ }
     ensures { λ r. ⌜ r ≡ byRows afterSubtraction v c h ⌝ }
 {
-    let hi = word::upper(v);
-    let lo = word::lower(v);
+    let hi = v / 16;
+    let lo = v % 16;
     if (c == 0) & (hi <= 0x9) & (h == 0) & (lo <= 0x9) {
         return by(v, 0x00, 0);
     }

@@ -6,7 +6,7 @@ use Prim.Native.Nat.{ℕ, _+_, _-_, _*_, _≤_, _<_}
 use native.Mathlib.Omega.{arith}
 use lib.Dec.{T}
 use Rattle.word.specs.Fields.{upper, lower}
-use Rattle.word.proofs.Computed.{made, agree, fails, NoneOf, else-passes}
+use Rattle.word.proofs.Computed.{made, agree2, fails, NoneOf, else-passes}
 use Rattle.opcodes.specs.declared.Entry.{Entry}
 use Rattle.opcodes.specs.declared.Entry.the-variants.{Blank, Of}
 use Rattle.opcodes.specs.Map.{entryOf}
@@ -23,11 +23,8 @@ in-part f g i n j m op u l e =
     let a : i + (upper op - i) ≡ upper op = omega arith in
     let b : j + (lower op - j) ≡ lower op = omega arith in
     let w : upper op * 16 + lower op ≡ op = omega arith in
-    let row =
-    agree (λ a. made (λ b. f (i + a) (j + b)) m) (λ a. made (λ b. g ((i + a) * 16 + (j + b))) m) n e (upper op - i) (omega arith) in
-    let cell =
-    agree (λ b. f (i + (upper op - i)) (j + b)) (λ b. g ((i + (upper op - i)) * 16 + (j + b))) m row (lower op - j) (omega arith) in
-    rw (a, b, w) at cell
+    rw (a, b, w)
+    at (agree2 (λ a b. f (i + a) (j + b)) (λ a b. g ((i + a) * 16 + (j + b))) n m e (upper op - i) (lower op - j) (omega arith) (omega arith))
 
 -- a test passes in row hi at a column that is none of those where it fails
 pub else-in-row : (f : ℕ → Bool) (hi op : ℕ) → upper op ≡ hi → NoneOf (lower op) (fails (λ lo. f (hi * 16 + lo)) 16) → T (f op)

@@ -93,3 +93,14 @@ tail-is e = cc
 pub agree : {A : Type 0} (f g : ℕ → A) (n : ℕ) → made f n ≡ made g n → (k : ℕ) → k < n → f k ≡ g k
 agree f g zero e k h = absurd (not-suc-le-zero h)
 agree f g (suc n) e k h = top-or-below (λ x. f x ≡ g x) n k h (head-is e) (λ l. agree f g n (tail-is e) k l)
+
+-- the same of two numbers, and of three
+pub agree2 : {A : Type 0} (f g : ℕ → ℕ → A) (m n : ℕ) → made (λ j. made (f j) n) m ≡ made (λ j. made (g j) n) m → (j k : ℕ) → j < m → k < n
+    → f j k ≡ g j k
+agree2 f g m n e j k h l = agree (f j) (g j) n (agree (λ j. made (f j) n) (λ j. made (g j) n) m e j h) k l
+
+pub agree3 : {A : Type 0} (f g : ℕ → ℕ → ℕ → A) (l m n : ℕ)
+    → made (λ i. made (λ j. made (f i j) n) m) l ≡ made (λ i. made (λ j. made (g i j) n) m) l → (i j k : ℕ) → i < l → j < m → k < n
+    → f i j k ≡ g i j k
+agree3 f g l m n e i j k a b c =
+    agree2 (f i) (g i) m n (agree (λ i. made (λ j. made (f i j) n) m) (λ i. made (λ j. made (g i j) n) m) l e i a) j k b c

@@ -8,15 +8,13 @@ use native.Mathlib.Omega.{arith}
 use mathlib.Core.Path.{_≡_, refl}
 use Prim.Native.Nat.{ℕ, _+_, _-_, _<_}
 use mathlib.Core.Bool.{not, xor}
-use Rattle.word.proofs.Computed.{made, agree}
+use Rattle.word.proofs.Computed.{agree2}
 use Rattle.alu.specs.Conditions.{holdsOf}
 
 -- a code from 8 is the opposite of that 8 below, at all FLAGS bytes
 opposite : (k f : ℕ) → k < 8 → f < 256 → not (holdsOf k f) ≡ holdsOf (k + 8) f
 unfolding holdsOf xor
-opposite k f h l =
-    agree (λ k. not (holdsOf k f)) (λ k. holdsOf (k + 8) f) 8
-    (agree (λ f. made (λ k. not (holdsOf k f)) 8) (λ f. made (λ k. holdsOf (k + 8) f) 8) 256 refl f l) k h
+opposite k f h l = agree2 (λ f k. not (holdsOf k f)) (λ f k. holdsOf (k + 8) f) 256 8 refl f k l h
 
 -- src/conditions.rt:32:17
 low-requires : tie.Need-low-requires

@@ -4,51 +4,37 @@ use Rattle.alu.proofs.decimal.after_addition.Tie as tie
 use Rattle.alu.proofs.decimal.after_addition.Reads as reads
 use Rattle.alu.proofs.decimal.after_addition.Lts as lts
 use Rattle.alu.proofs.decimal.by.Reads as by-reads
-use Rattle.word.proofs.lower.Reads as lower-reads
-use Rattle.word.proofs.upper.Reads as upper-reads
 use native.Mathlib.Omega.{arith}
 use mathlib.Core.Path.{_≡_, refl}
-use Prim.Native.Nat.{ℕ, _+_, _-_, _<_}
+use Prim.Native.Nat.{ℕ}
 use mathlib.Core.Bool.{_&&_}
 use lib.Dec.{eqb, leb}
 use Rattle.word.specs.Choose.{pick}
 use Rattle.word.specs.Fields.{upper, lower}
-use Rattle.word.proofs.Computed.{made, agree}
+use Rattle.word.proofs.Computed.{agree3}
 use Rattle.alu.specs.declared.Adjusted.{Adjusted}
 use Rattle.alu.specs.declared.Adjusted.the-variants.{By, NoRow}
 use Rattle.alu.specs.Decimal.{added, byRows, afterAddition}
 
 -- the code's comparisons, row by row
-chain : ℕ → ℕ → ℕ → ℕ → ℕ → Adjusted
-chain v hi lo c h =
-    pick (eqb c 0 && leb hi 0x9 && eqb h 0 && leb lo 0x9) (By (added v 0x00 0))
-    (pick (eqb c 0 && leb hi 0x8 && eqb h 0 && leb 0xA lo) (By (added v 0x06 0))
-    (pick (eqb c 0 && leb hi 0x9 && eqb h 1 && leb lo 0x3) (By (added v 0x06 0))
-    (pick (eqb c 0 && leb 0xA hi && eqb h 0 && leb lo 0x9) (By (added v 0x60 1))
-    (pick (eqb c 0 && leb 0x9 hi && eqb h 0 && leb 0xA lo) (By (added v 0x66 1))
-    (pick (eqb c 0 && leb 0xA hi && eqb h 1 && leb lo 0x3) (By (added v 0x66 1))
-    (pick (eqb c 1 && leb hi 0x2 && eqb h 0 && leb lo 0x9) (By (added v 0x60 1))
-    (pick (eqb c 1 && leb hi 0x2 && eqb h 0 && leb 0xA lo) (By (added v 0x66 1))
-    (pick (eqb c 1 && leb hi 0x3 && eqb h 1 && leb lo 0x3) (By (added v 0x66 1))
+chain : ℕ → ℕ → ℕ → Adjusted
+chain v c h =
+    pick (eqb c 0 && leb (upper v) 0x9 && eqb h 0 && leb (lower v) 0x9) (By (added v 0x00 0))
+    (pick (eqb c 0 && leb (upper v) 0x8 && eqb h 0 && leb 0xA (lower v)) (By (added v 0x06 0))
+    (pick (eqb c 0 && leb (upper v) 0x9 && eqb h 1 && leb (lower v) 0x3) (By (added v 0x06 0))
+    (pick (eqb c 0 && leb 0xA (upper v) && eqb h 0 && leb (lower v) 0x9) (By (added v 0x60 1))
+    (pick (eqb c 0 && leb 0x9 (upper v) && eqb h 0 && leb 0xA (lower v)) (By (added v 0x66 1))
+    (pick (eqb c 0 && leb 0xA (upper v) && eqb h 1 && leb (lower v) 0x3) (By (added v 0x66 1))
+    (pick (eqb c 1 && leb (upper v) 0x2 && eqb h 0 && leb (lower v) 0x9) (By (added v 0x60 1))
+    (pick (eqb c 1 && leb (upper v) 0x2 && eqb h 0 && leb 0xA (lower v)) (By (added v 0x66 1))
+    (pick (eqb c 1 && leb (upper v) 0x3 && eqb h 1 && leb (lower v) 0x3) (By (added v 0x66 1))
     NoRow))))))))
 
 -- they are the page's rows, at every byte, C and H
-chain-is : (v hi lo c h : ℕ) → hi ≡ upper v → lo ≡ lower v → v < 256 → c < 2 → h < 2 → byRows afterAddition v c h ≡ chain v hi lo c h
+rows : (s : tie.Start) → byRows afterAddition (s .args .v) (s .args .c) (s .args .h) ≡ chain (s .args .v) (s .args .c) (s .args .h)
 unfolding chain byRows afterAddition
-chain-is v hi lo c h e g k l m =
-    rw (e, g)
-    (agree (λ h. byRows afterAddition v c h) (λ h. chain v (upper v) (lower v) c h) 2
-    (agree (λ c. made (λ h. byRows afterAddition v c h) 2) (λ c. made (λ h. chain v (upper v) (lower v) c h) 2) 2
-    (agree (λ v. made (λ c. made (λ h. byRows afterAddition v c h) 2) 2) (λ v. made (λ c. made (λ h. chain v (upper v) (lower v) c h) 2) 2) 256 refl v k)
-    c l) h m)
-
--- src/decimal.rt:31:9
-upper-requires : tie.Need-upper-requires
-upper-requires c κs = search needs
-
--- src/decimal.rt:32:9
-lower-requires : tie.Need-lower-requires
-lower-requires c κs = search needs
+rows s =
+    agree3 (byRows afterAddition) chain 256 2 2 refl (s .args .v) (s .args .c) (s .args .h) (omega arith) (omega arith) (omega arith)
 
 -- src/decimal.rt:34:9
 by-requires : tie.Need-by-requires
@@ -57,7 +43,7 @@ by-requires c κs = search needs
 -- src/decimal.rt:34:9
 returns : tie.Need-returns
 unfolding chain
-returns c = rw (c .by .ensures, chain-is (c .before .before .before .before .args .v) (c .before .before .before .upper .result) (c .before .before .lower .result) (c .before .before .before .before .args .c) (c .before .before .before .before .args .h) (c .before .before .before .upper .ensures) (c .before .before .lower .ensures) (omega arith) (omega arith) (omega arith), c .before .if1 .taken)
+returns c = rw (c .by .ensures, rows (c .before .before), c .before .if1 .taken)
 
 -- src/decimal.rt:37:9
 by-requires-2 : tie.Need-by-requires-2
@@ -66,7 +52,7 @@ by-requires-2 c κs = search needs
 -- src/decimal.rt:37:9
 returns-2 : tie.Need-returns-2
 unfolding chain
-returns-2 c = rw (c .by2 .ensures, chain-is (c .before .before .before .before .before .args .v) (c .before .before .before .before .upper .result) (c .before .before .before .lower .result) (c .before .before .before .before .before .args .c) (c .before .before .before .before .before .args .h) (c .before .before .before .before .upper .ensures) (c .before .before .before .lower .ensures) (omega arith) (omega arith) (omega arith), c .before .before .if1 .left, c .before .if2 .taken)
+returns-2 c = rw (c .by2 .ensures, rows (c .before .before .before), c .before .before .if1 .left, c .before .if2 .taken)
 
 -- src/decimal.rt:40:9
 by-requires-3 : tie.Need-by-requires-3
@@ -75,7 +61,7 @@ by-requires-3 c κs = search needs
 -- src/decimal.rt:40:9
 returns-3 : tie.Need-returns-3
 unfolding chain
-returns-3 c = rw (c .by3 .ensures, chain-is (c .before .before .before .before .before .before .args .v) (c .before .before .before .before .before .upper .result) (c .before .before .before .before .lower .result) (c .before .before .before .before .before .before .args .c) (c .before .before .before .before .before .before .args .h) (c .before .before .before .before .before .upper .ensures) (c .before .before .before .before .lower .ensures) (omega arith) (omega arith) (omega arith), c .before .before .before .if1 .left, c .before .before .if2 .left, c .before .if3 .taken)
+returns-3 c = rw (c .by3 .ensures, rows (c .before .before .before .before), c .before .before .before .if1 .left, c .before .before .if2 .left, c .before .if3 .taken)
 
 -- src/decimal.rt:43:9
 by-requires-4 : tie.Need-by-requires-4
@@ -84,7 +70,7 @@ by-requires-4 c κs = search needs
 -- src/decimal.rt:43:9
 returns-4 : tie.Need-returns-4
 unfolding chain
-returns-4 c = rw (c .by4 .ensures, chain-is (c .before .before .before .before .before .before .before .args .v) (c .before .before .before .before .before .before .upper .result) (c .before .before .before .before .before .lower .result) (c .before .before .before .before .before .before .before .args .c) (c .before .before .before .before .before .before .before .args .h) (c .before .before .before .before .before .before .upper .ensures) (c .before .before .before .before .before .lower .ensures) (omega arith) (omega arith) (omega arith), c .before .before .before .before .if1 .left, c .before .before .before .if2 .left, c .before .before .if3 .left, c .before .if4 .taken)
+returns-4 c = rw (c .by4 .ensures, rows (c .before .before .before .before .before), c .before .before .before .before .if1 .left, c .before .before .before .if2 .left, c .before .before .if3 .left, c .before .if4 .taken)
 
 -- src/decimal.rt:46:9
 by-requires-5 : tie.Need-by-requires-5
@@ -93,7 +79,7 @@ by-requires-5 c κs = search needs
 -- src/decimal.rt:46:9
 returns-5 : tie.Need-returns-5
 unfolding chain
-returns-5 c = rw (c .by5 .ensures, chain-is (c .before .before .before .before .before .before .before .before .args .v) (c .before .before .before .before .before .before .before .upper .result) (c .before .before .before .before .before .before .lower .result) (c .before .before .before .before .before .before .before .before .args .c) (c .before .before .before .before .before .before .before .before .args .h) (c .before .before .before .before .before .before .before .upper .ensures) (c .before .before .before .before .before .before .lower .ensures) (omega arith) (omega arith) (omega arith), c .before .before .before .before .before .if1 .left, c .before .before .before .before .if2 .left, c .before .before .before .if3 .left, c .before .before .if4 .left, c .before .if5 .taken)
+returns-5 c = rw (c .by5 .ensures, rows (c .before .before .before .before .before .before), c .before .before .before .before .before .if1 .left, c .before .before .before .before .if2 .left, c .before .before .before .if3 .left, c .before .before .if4 .left, c .before .if5 .taken)
 
 -- src/decimal.rt:49:9
 by-requires-6 : tie.Need-by-requires-6
@@ -102,7 +88,7 @@ by-requires-6 c κs = search needs
 -- src/decimal.rt:49:9
 returns-6 : tie.Need-returns-6
 unfolding chain
-returns-6 c = rw (c .by6 .ensures, chain-is (c .before .before .before .before .before .before .before .before .before .args .v) (c .before .before .before .before .before .before .before .before .upper .result) (c .before .before .before .before .before .before .before .lower .result) (c .before .before .before .before .before .before .before .before .before .args .c) (c .before .before .before .before .before .before .before .before .before .args .h) (c .before .before .before .before .before .before .before .before .upper .ensures) (c .before .before .before .before .before .before .before .lower .ensures) (omega arith) (omega arith) (omega arith), c .before .before .before .before .before .before .if1 .left, c .before .before .before .before .before .if2 .left, c .before .before .before .before .if3 .left, c .before .before .before .if4 .left, c .before .before .if5 .left, c .before .if6 .taken)
+returns-6 c = rw (c .by6 .ensures, rows (c .before .before .before .before .before .before .before), c .before .before .before .before .before .before .if1 .left, c .before .before .before .before .before .if2 .left, c .before .before .before .before .if3 .left, c .before .before .before .if4 .left, c .before .before .if5 .left, c .before .if6 .taken)
 
 -- src/decimal.rt:52:9
 by-requires-7 : tie.Need-by-requires-7
@@ -111,7 +97,7 @@ by-requires-7 c κs = search needs
 -- src/decimal.rt:52:9
 returns-7 : tie.Need-returns-7
 unfolding chain
-returns-7 c = rw (c .by7 .ensures, chain-is (c .before .before .before .before .before .before .before .before .before .before .args .v) (c .before .before .before .before .before .before .before .before .before .upper .result) (c .before .before .before .before .before .before .before .before .lower .result) (c .before .before .before .before .before .before .before .before .before .before .args .c) (c .before .before .before .before .before .before .before .before .before .before .args .h) (c .before .before .before .before .before .before .before .before .before .upper .ensures) (c .before .before .before .before .before .before .before .before .lower .ensures) (omega arith) (omega arith) (omega arith), c .before .before .before .before .before .before .before .if1 .left, c .before .before .before .before .before .before .if2 .left, c .before .before .before .before .before .if3 .left, c .before .before .before .before .if4 .left, c .before .before .before .if5 .left, c .before .before .if6 .left, c .before .if7 .taken)
+returns-7 c = rw (c .by7 .ensures, rows (c .before .before .before .before .before .before .before .before), c .before .before .before .before .before .before .before .if1 .left, c .before .before .before .before .before .before .if2 .left, c .before .before .before .before .before .if3 .left, c .before .before .before .before .if4 .left, c .before .before .before .if5 .left, c .before .before .if6 .left, c .before .if7 .taken)
 
 -- src/decimal.rt:55:9
 by-requires-8 : tie.Need-by-requires-8
@@ -120,7 +106,7 @@ by-requires-8 c κs = search needs
 -- src/decimal.rt:55:9
 returns-8 : tie.Need-returns-8
 unfolding chain
-returns-8 c = rw (c .by8 .ensures, chain-is (c .before .before .before .before .before .before .before .before .before .before .before .args .v) (c .before .before .before .before .before .before .before .before .before .before .upper .result) (c .before .before .before .before .before .before .before .before .before .lower .result) (c .before .before .before .before .before .before .before .before .before .before .before .args .c) (c .before .before .before .before .before .before .before .before .before .before .before .args .h) (c .before .before .before .before .before .before .before .before .before .before .upper .ensures) (c .before .before .before .before .before .before .before .before .before .lower .ensures) (omega arith) (omega arith) (omega arith), c .before .before .before .before .before .before .before .before .if1 .left, c .before .before .before .before .before .before .before .if2 .left, c .before .before .before .before .before .before .if3 .left, c .before .before .before .before .before .if4 .left, c .before .before .before .before .if5 .left, c .before .before .before .if6 .left, c .before .before .if7 .left, c .before .if8 .taken)
+returns-8 c = rw (c .by8 .ensures, rows (c .before .before .before .before .before .before .before .before .before), c .before .before .before .before .before .before .before .before .if1 .left, c .before .before .before .before .before .before .before .if2 .left, c .before .before .before .before .before .before .if3 .left, c .before .before .before .before .before .if4 .left, c .before .before .before .before .if5 .left, c .before .before .before .if6 .left, c .before .before .if7 .left, c .before .if8 .taken)
 
 -- src/decimal.rt:58:9
 by-requires-9 : tie.Need-by-requires-9
@@ -129,19 +115,17 @@ by-requires-9 c κs = search needs
 -- src/decimal.rt:58:9
 returns-9 : tie.Need-returns-9
 unfolding chain
-returns-9 c = rw (c .by9 .ensures, chain-is (c .before .before .before .before .before .before .before .before .before .before .before .before .args .v) (c .before .before .before .before .before .before .before .before .before .before .before .upper .result) (c .before .before .before .before .before .before .before .before .before .before .lower .result) (c .before .before .before .before .before .before .before .before .before .before .before .before .args .c) (c .before .before .before .before .before .before .before .before .before .before .before .before .args .h) (c .before .before .before .before .before .before .before .before .before .before .before .upper .ensures) (c .before .before .before .before .before .before .before .before .before .before .lower .ensures) (omega arith) (omega arith) (omega arith), c .before .before .before .before .before .before .before .before .before .if1 .left, c .before .before .before .before .before .before .before .before .if2 .left, c .before .before .before .before .before .before .before .if3 .left, c .before .before .before .before .before .before .if4 .left, c .before .before .before .before .before .if5 .left, c .before .before .before .before .if6 .left, c .before .before .before .if7 .left, c .before .before .if8 .left, c .before .if9 .taken)
+returns-9 c = rw (c .by9 .ensures, rows (c .before .before .before .before .before .before .before .before .before .before), c .before .before .before .before .before .before .before .before .before .if1 .left, c .before .before .before .before .before .before .before .before .if2 .left, c .before .before .before .before .before .before .before .if3 .left, c .before .before .before .before .before .before .if4 .left, c .before .before .before .before .before .if5 .left, c .before .before .before .before .if6 .left, c .before .before .before .if7 .left, c .before .before .if8 .left, c .before .if9 .taken)
 
 -- src/decimal.rt:26:1
 returns-10 : tie.Need-returns-10
 unfolding chain
-returns-10 c = rw (chain-is (c .before .before .before .before .before .before .before .before .before .before .before .args .v) (c .before .before .before .before .before .before .before .before .before .before .upper .result) (c .before .before .before .before .before .before .before .before .before .lower .result) (c .before .before .before .before .before .before .before .before .before .before .before .args .c) (c .before .before .before .before .before .before .before .before .before .before .before .args .h) (c .before .before .before .before .before .before .before .before .before .before .upper .ensures) (c .before .before .before .before .before .before .before .before .before .lower .ensures) (omega arith) (omega arith) (omega arith), c .before .before .before .before .before .before .before .before .if1 .left, c .before .before .before .before .before .before .before .if2 .left, c .before .before .before .before .before .before .if3 .left, c .before .before .before .before .before .if4 .left, c .before .before .before .before .if5 .left, c .before .before .before .if6 .left, c .before .before .if7 .left, c .before .if8 .left, c .if9 .left)
+returns-10 c = rw (rows (c .before .before .before .before .before .before .before .before .before), c .before .before .before .before .before .before .before .before .if1 .left, c .before .before .before .before .before .before .before .if2 .left, c .before .before .before .before .before .before .if3 .left, c .before .before .before .before .before .if4 .left, c .before .before .before .before .if5 .left, c .before .before .before .if6 .left, c .before .before .if7 .left, c .before .if8 .left, c .if9 .left)
 
 pub after-addition-spec : {M : Type 1} → statement M
 after-addition-spec =
     tie.close
     (tie.spec
-    upper-requires
-    lower-requires
     by-requires
     returns
     by-requires-2

@@ -1,0 +1,19 @@
+-- 01's examples hold, all together, computed from the definitions. Assumes nothing.
+use mathlib.Core.Bool.{Bool, true, _&&_}
+use mathlib.Core.List.{List, [], _∷_}
+use lib.Dec.{T}
+use Rattle.word.specs.Words.{dispOf, movedBy}
+use Rattle.alu.specs.FlagByte.{laid, packed}
+use Rattle.alu.specs.Arithmetic.{addOf, sumOf, subOf, takenOf, differenceOf, incOf, decwOf, sumOverflow, differenceOverflow}
+use Rattle.alu.specs.Logical.{andOf, logicFlags}
+use Rattle.alu.specs.Rotate.{rlOf, sraOf, rotateFlags}
+use Rattle.alu.specs.Decimal.{daOf, byRows, added, afterAddition, afterSubtraction}
+use Rattle.alu.specs.Examples.{examples}
+
+abbrev pub all : List Bool → Bool
+all [] = true
+all (b ∷ bs) = b && all bs
+
+pub examples-hold : T (all examples)
+unfolding examples laid packed addOf sumOf subOf takenOf differenceOf incOf decwOf sumOverflow differenceOverflow andOf logicFlags rlOf sraOf rotateFlags daOf byRows added afterAddition afterSubtraction dispOf movedBy
+examples-hold = tt
