@@ -1,9 +1,9 @@
 -- What the definitions promise besides: that flags are laid bit by bit, and that no two rows of DA are for the same byte.
 -- Assumes nothing.
 use mathlib.Core.Path.{_≡_, refl}
-use mathlib.Core.Bool.{Bool, true, _&&_}
+use mathlib.Core.Bool.{true, _&&_}
 use mathlib.Core.List.{List, [], _∷_}
-use Prim.Native.Nat.{ℕ, _+_, _-_, _/_, _%_, _^_, _<_, _≤_}
+use Prim.Native.Nat.{ℕ, _+_, _-_, _/_, _^_, _<_}
 use native.Mathlib.Omega.{arith}
 use lib.Dec.{leb}
 use lib.Bits.{bitAnd, bitOr, and-shr, and-mod, or-shr, or-mod}
@@ -11,7 +11,7 @@ use Rattle.word.specs.Choose.{oneIf}
 use Rattle.word.specs.Fields.{bitOf}
 use Rattle.word.proofs.Computed.{agree2, agree3}
 use Rattle.alu.specs.declared.Flags.{Flags}
-use Rattle.alu.specs.FlagByte.{laid, packed}
+use Rattle.alu.specs.FlagByte.{laid}
 use Rattle.alu.specs.Decimal.{Row, fits, afterAddition, afterSubtraction}
 
 -- a bit of what is laid is the result of laying that bit

@@ -1,7 +1,7 @@
 -- 01's proved examples, one list: each is a test on the definitions, with the FLAGS byte before as the second argument of `after`.
 -- It begins here with those that are functions of bytes, and moves up to the highest crate that it comes to need. Assumes nothing.
 use Prim.Native.Nat.{ℕ}
-use mathlib.Core.Bool.{Bool, true, false, _&&_}
+use mathlib.Core.Bool.{Bool, false, _&&_}
 use mathlib.Core.List.{List, [], _∷_}
 use lib.Dec.{eqb}
 use Rattle.word.specs.Words.{dispOf, movedBy}

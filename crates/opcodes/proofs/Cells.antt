@@ -1,6 +1,6 @@
 -- A part of a map of 16 rows of 16 compared with what the code answers there, by computing both. Assumes nothing.
 use mathlib.Core.Path.{_≡_, refl}
-use mathlib.Core.Bool.{Bool, true, false, not}
+use mathlib.Core.Bool.{Bool, not}
 use mathlib.Core.List.{List}
 use Prim.Native.Nat.{ℕ, _+_, _-_, _*_, _≤_, _<_}
 use native.Mathlib.Omega.{arith}
@@ -9,7 +9,6 @@ use Rattle.word.specs.Fields.{upper, lower}
 use Rattle.word.proofs.Computed.{made, agree2, fails, NoneOf, else-passes}
 use Rattle.opcodes.specs.declared.Entry.{Entry}
 use Rattle.opcodes.specs.declared.Entry.the-variants.{Blank, Of}
-use Rattle.opcodes.specs.Map.{entryOf}
 use Rattle.opcodes.specs.Instruction.{defined}
 
 -- f, of an upper and a lower nibble, in the m columns from j of the n rows from i

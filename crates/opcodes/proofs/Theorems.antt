@@ -2,19 +2,17 @@
 -- that decoding and encoding undo each other. Tests over all 256 opcodes are computed; operand bytes are variables throughout.
 -- Assumes nothing.
 use mathlib.Core.Path.{_≡_, refl, sym}
-use mathlib.Core.Bool.{Bool, true, false, not, _&&_, _||_}
+use mathlib.Core.Bool.{Bool, true, false, _&&_, _||_}
 use mathlib.Core.List.{List, [], _∷_, _++_}
 use Prim.Native.Nat.{ℕ, zero, suc, _+_, _*_, _≤_, _<_}
 use native.Mathlib.Omega.{arith}
 use lib.Dec.{T, eqb, leb, eqb→eq, leb→le}
 use Rattle.word.specs.Choose.{pick, oneIf}
-use Rattle.word.proofs.Computed.{below, at, under, and-left, and-right}
+use Rattle.word.proofs.Computed.{below, at, and-left, and-right}
 use Rattle.opcodes.specs.declared.Entry.{Entry}
 use Rattle.opcodes.specs.declared.Entry.the-variants.{Blank, Of}
 use Rattle.opcodes.specs.declared.Kind.{Kind}
-use Rattle.opcodes.specs.declared.Decoded.{Decoded}
 use Rattle.opcodes.specs.declared.Decoded.the-variants as decoded
-use Rattle.opcodes.specs.declared.Encoded.{Encoded}
 use Rattle.opcodes.specs.declared.Encoded.the-variants as encoded
 use Rattle.opcodes.specs.Map.{entryOf, opcodeMap}
 use Rattle.opcodes.specs.Cycles.{cyclesOf, cycleMap}

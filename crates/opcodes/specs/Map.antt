@@ -2,7 +2,6 @@
 -- entry gives the kind of instruction, its mnemonic and its address modes (5.4), destination first; "the blank areas are not
 -- defined". Where our copy of Appendix C has lost rows, the maps of 000 and 003 have them. Assumes nothing.
 use Prim.Native.Nat.{ℕ, _-_, _%_}
-use mathlib.Core.Bool.{Bool, true, false}
 use mathlib.Core.List.{List, [], _∷_}
 use lib.Dec.{eqb}
 use lib.ListN.{getD}

@@ -1,11 +1,8 @@
 use Rattle.alu.proofs.lay.Statement.{statement}
 use Rattle.alu.proofs.lay.Tie as tie
-use Rattle.alu.proofs.lay.Reads as reads
-use Rattle.alu.proofs.lay.Lts as lts
 use Rattle.alu.specs.FlagByte.{laid}
 use mathlib.Core.Path.{refl}
 
--- src/lib.rt:41:1
 returns : tie.Need-returns
 unfolding laid
 returns c = refl

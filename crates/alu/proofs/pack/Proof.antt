@@ -1,56 +1,42 @@
 use borrow.Author.Needs.{needs}
 use Rattle.alu.proofs.pack.Statement.{statement}
 use Rattle.alu.proofs.pack.Tie as tie
-use Rattle.alu.proofs.pack.Reads as reads
-use Rattle.alu.proofs.pack.Lts as lts
 use Rattle.alu.specs.FlagByte.{packed}
 use mathlib.Core.Path.{refl}
 
--- src/lib.rt:64:5
 mul-result : tie.Need-mul-result
 mul-result c = search needs
 
--- src/lib.rt:64:15
 mul-result-2 : tie.Need-mul-result-2
 mul-result-2 c = search needs
 
--- src/lib.rt:64:5
 add-result : tie.Need-add-result
 add-result c = search needs
 
--- src/lib.rt:64:24
 mul-result-3 : tie.Need-mul-result-3
 mul-result-3 c = search needs
 
--- src/lib.rt:64:5
 add-result-2 : tie.Need-add-result-2
 add-result-2 c = search needs
 
--- src/lib.rt:64:33
 mul-result-4 : tie.Need-mul-result-4
 mul-result-4 c = search needs
 
--- src/lib.rt:64:5
 add-result-3 : tie.Need-add-result-3
 add-result-3 c = search needs
 
--- src/lib.rt:64:42
 mul-result-5 : tie.Need-mul-result-5
 mul-result-5 c = search needs
 
--- src/lib.rt:64:5
 add-result-4 : tie.Need-add-result-4
 add-result-4 c = search needs
 
--- src/lib.rt:64:50
 mul-result-6 : tie.Need-mul-result-6
 mul-result-6 c = search needs
 
--- src/lib.rt:64:5
 add-result-5 : tie.Need-add-result-5
 add-result-5 c = search needs
 
--- src/lib.rt:55:1
 returns : tie.Need-returns
 unfolding packed
 returns c = refl

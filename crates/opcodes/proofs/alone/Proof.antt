@@ -1,9 +1,6 @@
 use borrow.Author.Needs.{needs}
 use Rattle.opcodes.proofs.alone.Statement.{statement}
 use Rattle.opcodes.proofs.alone.Tie as tie
-use Rattle.opcodes.proofs.alone.Reads as reads
-use Rattle.opcodes.proofs.alone.Lts as lts
-use Rattle.word.proofs.upper.Reads as upper-reads
 use native.Mathlib.Omega.{arith}
 use mathlib.Core.Path.{_≡_, refl}
 use Rattle.opcodes.specs.Map.{entryOf, opcodeMap}
@@ -12,51 +9,41 @@ use Rattle.opcodes.specs.declared.Entry.the-variants.{Blank, Of}
 use Rattle.word.proofs.Computed.{last}
 use Rattle.opcodes.proofs.Cells.{in-part}
 
--- src/lib.rt:345:9
 upper-requires : tie.Need-upper-requires
 upper-requires c κs = search needs
 
--- src/lib.rt:341:1
 returns : tie.Need-returns
 unfolding entryOf opcodeMap
 returns c = in-part (λ hi lo. Of Di) entryOf 8 1 15 1 (c .before .before .args .op) (omega arith) (omega arith) refl
 
--- src/lib.rt:341:1
 returns-2 : tie.Need-returns-2
 unfolding entryOf opcodeMap
 returns-2 c = in-part (λ hi lo. Of Ei) entryOf 9 1 15 1 (c .before .before .args .op) (omega arith) (omega arith) refl
 
--- src/lib.rt:341:1
 returns-3 : tie.Need-returns-3
 unfolding entryOf opcodeMap
 returns-3 c = in-part (λ hi lo. Of Ret) entryOf 10 1 15 1 (c .before .before .args .op) (omega arith) (omega arith) refl
 
--- src/lib.rt:341:1
 returns-4 : tie.Need-returns-4
 unfolding entryOf opcodeMap
 returns-4 c = in-part (λ hi lo. Of Iret) entryOf 11 1 15 1 (c .before .before .args .op) (omega arith) (omega arith) refl
 
--- src/lib.rt:341:1
 returns-5 : tie.Need-returns-5
 unfolding entryOf opcodeMap
 returns-5 c = in-part (λ hi lo. Of Rcf) entryOf 12 1 15 1 (c .before .before .args .op) (omega arith) (omega arith) refl
 
--- src/lib.rt:341:1
 returns-6 : tie.Need-returns-6
 unfolding entryOf opcodeMap
 returns-6 c = in-part (λ hi lo. Of Scf) entryOf 13 1 15 1 (c .before .before .args .op) (omega arith) (omega arith) refl
 
--- src/lib.rt:341:1
 returns-7 : tie.Need-returns-7
 unfolding entryOf opcodeMap
 returns-7 c = in-part (λ hi lo. Of Ccf) entryOf 14 1 15 1 (c .before .before .args .op) (omega arith) (omega arith) refl
 
--- src/lib.rt:341:1
 returns-8 : tie.Need-returns-8
 unfolding entryOf opcodeMap
 returns-8 c = in-part (λ hi lo. Blank) entryOf 0 8 15 1 (c .before .before .before .args .op) (omega arith) (omega arith) refl
 
--- src/lib.rt:341:1
 returns-9 : tie.Need-returns-9
 unfolding entryOf opcodeMap
 returns-9 c =

@@ -1,39 +1,30 @@
 use borrow.Author.Needs.{needs}
 use Rattle.opcodes.proofs.alone_cycles.Statement.{statement}
 use Rattle.opcodes.proofs.alone_cycles.Tie as tie
-use Rattle.opcodes.proofs.alone_cycles.Reads as reads
-use Rattle.opcodes.proofs.alone_cycles.Lts as lts
-use Rattle.word.proofs.upper.Reads as upper-reads
 use native.Mathlib.Omega.{arith}
-use mathlib.Core.Path.{_≡_, refl}
+use mathlib.Core.Path.{refl}
 use Rattle.opcodes.specs.Cycles.{cyclesOf, cycleMap}
 use Rattle.opcodes.proofs.Cells.{in-part}
 
--- src/lib.rt:478:9
 upper-requires : tie.Need-upper-requires
 upper-requires c κs = search needs
 
--- src/lib.rt:474:1
 returns : tie.Need-returns
 unfolding cyclesOf cycleMap
 returns c = λ first. in-part (λ hi lo. 14) (λ x. cyclesOf x first) 10 1 15 1 (c .before .before .args .op) (omega arith) (omega arith) refl
 
--- src/lib.rt:474:1
 returns-2 : tie.Need-returns-2
 unfolding cyclesOf cycleMap
 returns-2 c = λ first. in-part (λ hi lo. 16) (λ x. cyclesOf x first) 11 1 15 1 (c .before .before .args .op) (omega arith) (omega arith) refl
 
--- src/lib.rt:474:1
 returns-3 : tie.Need-returns-3
 unfolding cyclesOf cycleMap
 returns-3 c = λ first. in-part (λ hi lo. 0) (λ x. cyclesOf x first) 0 8 15 1 (c .before .before .before .args .op) (omega arith) (omega arith) refl
 
--- src/lib.rt:474:1
 returns-4 : tie.Need-returns-4
 unfolding cyclesOf cycleMap
 returns-4 c = λ first. in-part (λ hi lo. 6) (λ x. cyclesOf x first) 8 2 15 1 (c .before .before .before .before .args .op) (omega arith) (omega arith) refl
 
--- src/lib.rt:474:1
 returns-5 : tie.Need-returns-5
 unfolding cyclesOf cycleMap
 returns-5 c = λ first. in-part (λ hi lo. 6) (λ x. cyclesOf x first) 12 4 15 1 (c .before .before .before .before .args .op) (omega arith) (omega arith) refl

@@ -1,12 +1,6 @@
 use borrow.Author.Needs.{needs}
 use Rattle.opcodes.proofs.entry_of.Statement.{statement}
 use Rattle.opcodes.proofs.entry_of.Tie as tie
-use Rattle.opcodes.proofs.entry_of.Reads as reads
-use Rattle.opcodes.proofs.entry_of.Lts as lts
-use Rattle.opcodes.proofs.alone.Reads as alone-reads
-use Rattle.opcodes.proofs.middle.Reads as middle-reads
-use Rattle.opcodes.proofs.one_operand.Reads as one-operand-reads
-use Rattle.word.proofs.lower.Reads as lower-reads
 use native.Mathlib.Omega.{arith}
 use mathlib.Core.Path.{_≡_, refl}
 use Rattle.opcodes.specs.Map.{entryOf, opcodeMap, r, r-R, R-r, r-IM, DA}
@@ -15,68 +9,54 @@ use Rattle.opcodes.specs.declared.Entry.the-variants.{Of}
 use Rattle.word.proofs.Computed.{last}
 use Rattle.opcodes.proofs.Cells.{in-part}
 
--- src/lib.rt:134:9
 lower-requires : tie.Need-lower-requires
 lower-requires c κs = search needs
 
--- src/lib.rt:136:18
 one-operand-requires : tie.Need-one-operand-requires
 one-operand-requires c κs = search needs
 
--- src/lib.rt:137:18
 middle-requires : tie.Need-middle-requires
 middle-requires c κs = search needs
 
--- src/lib.rt:145:21
 alone-requires : tie.Need-alone-requires
 alone-requires c κs =
     let e : c .before .before .before .lower .result ≡ 15 = last 8 15 (c .before .before .before .lower .result) (omega arith) (omega arith) (c .before .before .match .rest) in
     omega arith
 
--- src/lib.rt:131:1
 returns : tie.Need-returns
 unfolding entryOf opcodeMap
 returns c = in-part (λ hi lo. Of (Ld r-R)) entryOf 0 16 8 1 (c .before .before .args .op) (omega arith) (omega arith) refl
 
--- src/lib.rt:131:1
 returns-2 : tie.Need-returns-2
 unfolding entryOf opcodeMap
 returns-2 c = in-part (λ hi lo. Of (Ld R-r)) entryOf 0 16 9 1 (c .before .before .args .op) (omega arith) (omega arith) refl
 
--- src/lib.rt:131:1
 returns-3 : tie.Need-returns-3
 unfolding entryOf opcodeMap
 returns-3 c = in-part (λ hi lo. Of Djnz) entryOf 0 16 10 1 (c .before .before .args .op) (omega arith) (omega arith) refl
 
--- src/lib.rt:131:1
 returns-4 : tie.Need-returns-4
 unfolding entryOf opcodeMap
 returns-4 c = in-part (λ hi lo. Of Jr) entryOf 0 16 11 1 (c .before .before .args .op) (omega arith) (omega arith) refl
 
--- src/lib.rt:131:1
 returns-5 : tie.Need-returns-5
 unfolding entryOf opcodeMap
 returns-5 c = in-part (λ hi lo. Of (Ld r-IM)) entryOf 0 16 12 1 (c .before .before .args .op) (omega arith) (omega arith) refl
 
--- src/lib.rt:131:1
 returns-6 : tie.Need-returns-6
 unfolding entryOf opcodeMap
 returns-6 c = in-part (λ hi lo. Of (Jp DA)) entryOf 0 16 13 1 (c .before .before .args .op) (omega arith) (omega arith) refl
 
--- src/lib.rt:131:1
 returns-7 : tie.Need-returns-7
 unfolding entryOf opcodeMap
 returns-7 c = in-part (λ hi lo. Of (Inc r)) entryOf 0 16 14 1 (c .before .before .args .op) (omega arith) (omega arith) refl
 
--- src/lib.rt:131:1
 returns-8 : tie.Need-returns-8
 returns-8 c = search needs
 
--- src/lib.rt:131:1
 returns-9 : tie.Need-returns-9
 returns-9 c = search needs
 
--- src/lib.rt:131:1
 returns-10 : tie.Need-returns-10
 returns-10 c = search needs
 

@@ -1,9 +1,6 @@
 use borrow.Author.Needs.{needs}
 use Rattle.opcodes.proofs.length.Statement.{statement}
 use Rattle.opcodes.proofs.length.Tie as tie
-use Rattle.opcodes.proofs.length.Reads as reads
-use Rattle.opcodes.proofs.length.Lts as lts
-use Rattle.word.proofs.lower.Reads as lower-reads
 use native.Mathlib.Omega.{arith}
 use mathlib.Core.Path.{_≡_, sym}
 use Prim.Native.Nat.{ℕ}
@@ -22,32 +19,25 @@ nibble v op d n =
     eqb→eq (getD lengths (lower op) 0) v (else-passes (λ lo. eqb (getD lengths lo 0) v) 16 (lower op) (omega arith) n) in
     simp (ne-eqb op 0xD4 d) (sym e)
 
--- src/lib.rt:306:9
 returns : tie.Need-returns
 unfolding lengthOf
 returns c = rw (c .if1 .taken)
 
--- src/lib.rt:308:9
 lower-requires : tie.Need-lower-requires
 lower-requires c κs = search needs
 
--- src/lib.rt:302:1
 returns-2 : tie.Need-returns-2
 returns-2 c = nibble _ (c .before .before .before .before .before .before .args .op) (omega arith) (omega arith)
 
--- src/lib.rt:302:1
 returns-3 : tie.Need-returns-3
 returns-3 c = nibble _ (c .before .before .before .before .args .op) (omega arith) (omega arith)
 
--- src/lib.rt:302:1
 returns-4 : tie.Need-returns-4
 returns-4 c = nibble _ (c .before .before .before .before .before .before .args .op) (omega arith) (omega arith)
 
--- src/lib.rt:302:1
 returns-5 : tie.Need-returns-5
 returns-5 c = nibble _ (c .before .before .before .args .op) (omega arith) (omega arith)
 
--- src/lib.rt:302:1
 returns-6 : tie.Need-returns-6
 returns-6 c = nibble _ (c .before .before .before .before .before .args .op) (omega arith) (omega arith)
 

@@ -1,73 +1,51 @@
 use borrow.Author.Needs.{needs}
 use Rattle.opcodes.proofs.middle.Statement.{statement}
 use Rattle.opcodes.proofs.middle.Tie as tie
-use Rattle.opcodes.proofs.middle.Reads as reads
-use Rattle.opcodes.proofs.middle.Lts as lts
-use Rattle.opcodes.proofs.data_memory.Reads as data-memory-reads
-use Rattle.opcodes.proofs.loads.Reads as loads-reads
-use Rattle.opcodes.proofs.program_memory.Reads as program-memory-reads
-use Rattle.opcodes.proofs.two_modes.Reads as two-modes-reads
-use Rattle.opcodes.proofs.two_operands.Reads as two-operands-reads
-use Rattle.word.proofs.lower.Reads as lower-reads
-use Rattle.word.proofs.upper.Reads as upper-reads
 use native.Mathlib.Omega.{arith}
-use mathlib.Core.Path.{_≡_, refl}
+use mathlib.Core.Path.{refl}
 use Rattle.opcodes.specs.Map.{entryOf, opcodeMap, twoModes}
 use Rattle.opcodes.specs.declared.Kind.the-variants.{Cp, Xor}
 use Rattle.opcodes.specs.declared.Entry.the-variants.{Of}
 use Rattle.opcodes.proofs.Cells.{in-part}
 
--- src/lib.rt:189:9
 upper-requires : tie.Need-upper-requires
 upper-requires c κs = search needs
 
--- src/lib.rt:190:23
 lower-requires : tie.Need-lower-requires
 lower-requires c κs = search needs
 
--- src/lib.rt:190:9
 two-modes-requires : tie.Need-two-modes-requires
 two-modes-requires c κs = search needs
 
--- src/lib.rt:192:18
 two-operands-requires : tie.Need-two-operands-requires
 two-operands-requires c κs = search needs
 
--- src/lib.rt:193:18
 data-memory-requires : tie.Need-data-memory-requires
 data-memory-requires c κs = search needs
 
--- src/lib.rt:196:20
 program-memory-requires : tie.Need-program-memory-requires
 program-memory-requires c κs = search needs
 
--- src/lib.rt:197:21
 loads-requires : tie.Need-loads-requires
 loads-requires c κs = search needs
 
--- src/lib.rt:185:1
 returns : tie.Need-returns
 unfolding entryOf opcodeMap
 returns c = rw (c .before .two-modes .ensures, c .before .before .lower .ensures) (in-part (λ hi lo. Of (Cp (twoModes lo))) entryOf 10 1 2 6 (c .before .before .before .before .args .op) (omega arith) (omega arith) refl)
 
--- src/lib.rt:185:1
 returns-2 : tie.Need-returns-2
 unfolding entryOf opcodeMap
 returns-2 c = rw (c .before .two-modes .ensures, c .before .before .lower .ensures) (in-part (λ hi lo. Of (Xor (twoModes lo))) entryOf 11 1 2 6 (c .before .before .before .before .args .op) (omega arith) (omega arith) refl)
 
--- src/lib.rt:185:1
 returns-3 : tie.Need-returns-3
 returns-3 c = search needs
 
--- src/lib.rt:185:1
 returns-4 : tie.Need-returns-4
 returns-4 c = search needs
 
--- src/lib.rt:185:1
 returns-5 : tie.Need-returns-5
 returns-5 c = search needs
 
--- src/lib.rt:185:1
 returns-6 : tie.Need-returns-6
 returns-6 c = search needs
 

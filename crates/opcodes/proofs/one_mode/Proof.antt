@@ -1,14 +1,10 @@
 use Rattle.opcodes.proofs.one_mode.Statement.{statement}
 use Rattle.opcodes.proofs.one_mode.Tie as tie
-use Rattle.opcodes.proofs.one_mode.Reads as reads
-use Rattle.opcodes.proofs.one_mode.Lts as lts
-use borrow.Author.Tests.{eq-eqb, ne-eqb}
+use borrow.Author.Tests.{ne-eqb}
 
--- src/lib.rt:151:1
 returns : tie.Need-returns
 returns c = rw (c .if1 .taken)
 
--- src/lib.rt:151:1
 returns-2 : tie.Need-returns-2
 returns-2 c = simp (ne-eqb _ _ (c .if1 .left))
 

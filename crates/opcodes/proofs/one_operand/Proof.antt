@@ -1,11 +1,6 @@
 use borrow.Author.Needs.{needs}
 use Rattle.opcodes.proofs.one_operand.Statement.{statement}
 use Rattle.opcodes.proofs.one_operand.Tie as tie
-use Rattle.opcodes.proofs.one_operand.Reads as reads
-use Rattle.opcodes.proofs.one_operand.Lts as lts
-use Rattle.opcodes.proofs.one_mode.Reads as one-mode-reads
-use Rattle.word.proofs.lower.Reads as lower-reads
-use Rattle.word.proofs.upper.Reads as upper-reads
 use native.Mathlib.Omega.{arith}
 use mathlib.Core.Path.{_≡_, refl}
 use Rattle.opcodes.specs.Map.{entryOf, opcodeMap, oneMode, IRR}
@@ -14,99 +9,79 @@ use Rattle.opcodes.specs.declared.Entry.the-variants.{Of}
 use Rattle.word.proofs.Computed.{last}
 use Rattle.opcodes.proofs.Cells.{in-part}
 
--- src/lib.rt:161:9
 upper-requires : tie.Need-upper-requires
 upper-requires c κs = search needs
 
--- src/lib.rt:162:9
 lower-requires : tie.Need-lower-requires
 lower-requires c κs = search needs
 
--- src/lib.rt:163:9
 one-mode-requires : tie.Need-one-mode-requires
 one-mode-requires c κs = search needs
 
--- src/lib.rt:157:1
 returns : tie.Need-returns
 unfolding entryOf opcodeMap
 returns c = rw (c .before .one-mode .ensures, c .before .before .lower .ensures) (in-part (λ hi lo. Of (Dec (oneMode lo))) entryOf 0 1 0 2 (c .before .before .before .before .args .op) (omega arith) (omega arith) refl)
 
--- src/lib.rt:157:1
 returns-2 : tie.Need-returns-2
 unfolding entryOf opcodeMap
 returns-2 c = rw (c .before .one-mode .ensures, c .before .before .lower .ensures) (in-part (λ hi lo. Of (Rlc (oneMode lo))) entryOf 1 1 0 2 (c .before .before .before .before .args .op) (omega arith) (omega arith) refl)
 
--- src/lib.rt:157:1
 returns-3 : tie.Need-returns-3
 unfolding entryOf opcodeMap
 returns-3 c = rw (c .before .one-mode .ensures, c .before .before .lower .ensures) (in-part (λ hi lo. Of (Inc (oneMode lo))) entryOf 2 1 0 2 (c .before .before .before .before .args .op) (omega arith) (omega arith) refl)
 
--- src/lib.rt:157:1
 returns-4 : tie.Need-returns-4
 unfolding entryOf opcodeMap
 returns-4 c = in-part (λ hi lo. Of (Jp IRR)) entryOf 3 1 0 1 (c .before .before .before .before .before .args .op) (omega arith) (omega arith) refl
 
--- src/lib.rt:157:1
 returns-5 : tie.Need-returns-5
 unfolding entryOf opcodeMap
 returns-5 c = in-part (λ hi lo. Of Srp) entryOf 3 1 1 1 (c .before .before .before .before .before .args .op) (omega arith) (omega arith) refl
 
--- src/lib.rt:157:1
 returns-6 : tie.Need-returns-6
 unfolding entryOf opcodeMap
 returns-6 c = rw (c .before .one-mode .ensures, c .before .before .lower .ensures) (in-part (λ hi lo. Of (Da (oneMode lo))) entryOf 4 1 0 2 (c .before .before .before .before .args .op) (omega arith) (omega arith) refl)
 
--- src/lib.rt:157:1
 returns-7 : tie.Need-returns-7
 unfolding entryOf opcodeMap
 returns-7 c = rw (c .before .one-mode .ensures, c .before .before .lower .ensures) (in-part (λ hi lo. Of (Pop (oneMode lo))) entryOf 5 1 0 2 (c .before .before .before .before .args .op) (omega arith) (omega arith) refl)
 
--- src/lib.rt:157:1
 returns-8 : tie.Need-returns-8
 unfolding entryOf opcodeMap
 returns-8 c = rw (c .before .one-mode .ensures, c .before .before .lower .ensures) (in-part (λ hi lo. Of (Com (oneMode lo))) entryOf 6 1 0 2 (c .before .before .before .before .args .op) (omega arith) (omega arith) refl)
 
--- src/lib.rt:157:1
 returns-9 : tie.Need-returns-9
 unfolding entryOf opcodeMap
 returns-9 c = rw (c .before .one-mode .ensures, c .before .before .lower .ensures) (in-part (λ hi lo. Of (Push (oneMode lo))) entryOf 7 1 0 2 (c .before .before .before .before .args .op) (omega arith) (omega arith) refl)
 
--- src/lib.rt:157:1
 returns-10 : tie.Need-returns-10
 unfolding entryOf opcodeMap
 returns-10 c = rw (c .before .one-mode .ensures, c .before .before .lower .ensures) (in-part (λ hi lo. Of (Decw (oneMode lo))) entryOf 8 1 0 2 (c .before .before .before .before .args .op) (omega arith) (omega arith) refl)
 
--- src/lib.rt:157:1
 returns-11 : tie.Need-returns-11
 unfolding entryOf opcodeMap
 returns-11 c = rw (c .before .one-mode .ensures, c .before .before .lower .ensures) (in-part (λ hi lo. Of (Rl (oneMode lo))) entryOf 9 1 0 2 (c .before .before .before .before .args .op) (omega arith) (omega arith) refl)
 
--- src/lib.rt:157:1
 returns-12 : tie.Need-returns-12
 unfolding entryOf opcodeMap
 returns-12 c = rw (c .before .one-mode .ensures, c .before .before .lower .ensures) (in-part (λ hi lo. Of (Incw (oneMode lo))) entryOf 10 1 0 2 (c .before .before .before .before .args .op) (omega arith) (omega arith) refl)
 
--- src/lib.rt:157:1
 returns-13 : tie.Need-returns-13
 unfolding entryOf opcodeMap
 returns-13 c = rw (c .before .one-mode .ensures, c .before .before .lower .ensures) (in-part (λ hi lo. Of (Clr (oneMode lo))) entryOf 11 1 0 2 (c .before .before .before .before .args .op) (omega arith) (omega arith) refl)
 
--- src/lib.rt:157:1
 returns-14 : tie.Need-returns-14
 unfolding entryOf opcodeMap
 returns-14 c = rw (c .before .one-mode .ensures, c .before .before .lower .ensures) (in-part (λ hi lo. Of (Rrc (oneMode lo))) entryOf 12 1 0 2 (c .before .before .before .before .args .op) (omega arith) (omega arith) refl)
 
--- src/lib.rt:157:1
 returns-15 : tie.Need-returns-15
 unfolding entryOf opcodeMap
 returns-15 c = rw (c .before .one-mode .ensures, c .before .before .lower .ensures) (in-part (λ hi lo. Of (Sra (oneMode lo))) entryOf 13 1 0 2 (c .before .before .before .before .args .op) (omega arith) (omega arith) refl)
 
--- src/lib.rt:157:1
 returns-16 : tie.Need-returns-16
 unfolding entryOf opcodeMap
 returns-16 c = rw (c .before .one-mode .ensures, c .before .before .lower .ensures) (in-part (λ hi lo. Of (Rr (oneMode lo))) entryOf 14 1 0 2 (c .before .before .before .before .args .op) (omega arith) (omega arith) refl)
 
--- src/lib.rt:157:1
 returns-17 : tie.Need-returns-17
 unfolding entryOf opcodeMap
 returns-17 c =

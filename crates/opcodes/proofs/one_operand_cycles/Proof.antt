@@ -1,48 +1,36 @@
 use borrow.Author.Needs.{needs}
 use Rattle.opcodes.proofs.one_operand_cycles.Statement.{statement}
 use Rattle.opcodes.proofs.one_operand_cycles.Tie as tie
-use Rattle.opcodes.proofs.one_operand_cycles.Reads as reads
-use Rattle.opcodes.proofs.one_operand_cycles.Lts as lts
-use Rattle.opcodes.proofs.one_operand_cycles_to_7.Reads as one-operand-cycles-to-7-reads
-use Rattle.word.proofs.upper.Reads as upper-reads
 use native.Mathlib.Omega.{arith}
-use mathlib.Core.Path.{_≡_, refl}
+use mathlib.Core.Path.{refl}
 use Rattle.opcodes.specs.Cycles.{cyclesOf, cycleMap}
 use Rattle.opcodes.proofs.Cells.{in-part}
 
--- src/lib.rt:407:9
 upper-requires : tie.Need-upper-requires
 upper-requires c κs = search needs
 
--- src/lib.rt:409:18
 one-operand-cycles-to-7-requires : tie.Need-one-operand-cycles-to-7-requires
 one-operand-cycles-to-7-requires c κs = search needs
 
--- src/lib.rt:403:1
 returns : tie.Need-returns
 unfolding cyclesOf cycleMap
 returns c = in-part (λ hi lo. 10) (λ x. cyclesOf x (c .before .before .args .first)) 8 1 0 2 (c .before .before .args .op) (omega arith) (omega arith) refl
 
--- src/lib.rt:403:1
 returns-2 : tie.Need-returns-2
 unfolding cyclesOf cycleMap
 returns-2 c = in-part (λ hi lo. 6) (λ x. cyclesOf x (c .before .before .args .first)) 9 1 0 2 (c .before .before .args .op) (omega arith) (omega arith) refl
 
--- src/lib.rt:403:1
 returns-3 : tie.Need-returns-3
 unfolding cyclesOf cycleMap
 returns-3 c = in-part (λ hi lo. 10) (λ x. cyclesOf x (c .before .before .args .first)) 10 1 0 2 (c .before .before .args .op) (omega arith) (omega arith) refl
 
--- src/lib.rt:403:1
 returns-4 : tie.Need-returns-4
 returns-4 c = search needs
 
--- src/lib.rt:403:1
 returns-5 : tie.Need-returns-5
 unfolding cyclesOf cycleMap
 returns-5 c = in-part (λ hi lo. 6) (λ x. cyclesOf x (c .before .before .before .before .args .first)) 11 4 0 2 (c .before .before .before .before .args .op) (omega arith) (omega arith) refl
 
--- src/lib.rt:403:1
 returns-6 : tie.Need-returns-6
 unfolding cyclesOf cycleMap
 returns-6 c = in-part (λ hi lo. 8) (λ x. cyclesOf x (c .before .before .before .before .args .first)) 15 1 0 2 (c .before .before .before .before .args .op) (omega arith) (omega arith) refl

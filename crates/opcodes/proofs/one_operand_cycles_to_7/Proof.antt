@@ -1,69 +1,52 @@
 use borrow.Author.Needs.{needs}
 use Rattle.opcodes.proofs.one_operand_cycles_to_7.Statement.{statement}
 use Rattle.opcodes.proofs.one_operand_cycles_to_7.Tie as tie
-use Rattle.opcodes.proofs.one_operand_cycles_to_7.Reads as reads
-use Rattle.opcodes.proofs.one_operand_cycles_to_7.Lts as lts
-use Rattle.opcodes.proofs.either.Reads as either-reads
-use Rattle.word.proofs.lower.Reads as lower-reads
-use Rattle.word.proofs.upper.Reads as upper-reads
 use native.Mathlib.Omega.{arith}
-use mathlib.Core.Path.{_≡_, refl}
+use mathlib.Core.Path.{refl}
 use Rattle.opcodes.specs.Cycles.{cyclesOf, cycleMap}
 use Rattle.word.specs.Choose.{pick}
 use Rattle.opcodes.proofs.Cells.{in-part}
 
--- src/lib.rt:424:9
 upper-requires : tie.Need-upper-requires
 upper-requires c κs = search needs
 
--- src/lib.rt:425:9
 lower-requires : tie.Need-lower-requires
 lower-requires c κs = search needs
 
--- src/lib.rt:432:33
 either-requires : tie.Need-either-requires
 either-requires c κs = search needs
 
--- src/lib.rt:432:64
 either-requires-2 : tie.Need-either-requires-2
 either-requires-2 c κs = search needs
 
--- src/lib.rt:419:1
 returns : tie.Need-returns
 unfolding cyclesOf cycleMap
 returns c = in-part (λ hi lo. 8) (λ x. cyclesOf x (c .before .before .before .before .args .first)) 3 1 0 1 (c .before .before .before .before .args .op) (omega arith) (omega arith) refl
 
--- src/lib.rt:419:1
 returns-2 : tie.Need-returns-2
 unfolding cyclesOf cycleMap
 returns-2 c = in-part (λ hi lo. 6) (λ x. cyclesOf x (c .before .before .before .before .args .first)) 3 1 1 1 (c .before .before .before .before .args .op) (omega arith) (omega arith) refl
 
--- src/lib.rt:419:1
 returns-3 : tie.Need-returns-3
 unfolding cyclesOf cycleMap
 returns-3 c = in-part (λ hi lo. 8) (λ x. cyclesOf x (c .before .before .before .args .first)) 4 1 0 2 (c .before .before .before .args .op) (omega arith) (omega arith) refl
 
--- src/lib.rt:419:1
 returns-4 : tie.Need-returns-4
 unfolding cyclesOf cycleMap
 returns-4 c = in-part (λ hi lo. 10) (λ x. cyclesOf x (c .before .before .before .args .first)) 5 1 0 2 (c .before .before .before .args .op) (omega arith) (omega arith) refl
 
--- src/lib.rt:419:1
 returns-5 : tie.Need-returns-5
 unfolding cyclesOf cycleMap
 returns-5 c = in-part (λ hi lo. 6) (λ x. cyclesOf x (c .before .before .before .args .first)) 6 1 0 2 (c .before .before .before .args .op) (omega arith) (omega arith) refl
 
--- src/lib.rt:419:1
 returns-6 : tie.Need-returns-6
 unfolding cyclesOf cycleMap
 returns-6 c = in-part (λ hi lo. 6) (λ x. cyclesOf x (c .before .before .before .before .args .first)) 0 3 0 2 (c .before .before .before .before .args .op) (omega arith) (omega arith) refl
 
--- src/lib.rt:419:1
 returns-7 : tie.Need-returns-7
 unfolding cyclesOf cycleMap
 returns-7 c = rw (c .either .ensures) (in-part (λ hi lo. pick (c .before .before .before .before .before .before .args .first) 10 12) (λ x. cyclesOf x (c .before .before .before .before .before .before .args .first)) 7 1 0 1 (c .before .before .before .before .before .before .args .op) (omega arith) (omega arith) refl)
 
--- src/lib.rt:419:1
 returns-8 : tie.Need-returns-8
 unfolding cyclesOf cycleMap
 returns-8 c = rw (c .either2 .ensures) (in-part (λ hi lo. pick (c .before .before .before .before .before .before .args .first) 12 14) (λ x. cyclesOf x (c .before .before .before .before .before .before .args .first)) 7 1 1 1 (c .before .before .before .before .before .before .args .op) (omega arith) (omega arith) refl)

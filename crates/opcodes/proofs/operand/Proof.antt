@@ -1,14 +1,10 @@
 use Rattle.opcodes.proofs.operand.Statement.{statement}
 use Rattle.opcodes.proofs.operand.Tie as tie
-use Rattle.opcodes.proofs.operand.Reads as reads
-use Rattle.opcodes.proofs.operand.Lts as lts
 use borrow.Author.Tests.{le-leb, lt-leb}
 
--- src/lib.rt:317:1
 returns : tie.Need-returns
 returns c = simp (le-leb _ _ (c .if1 .taken))
 
--- src/lib.rt:317:1
 returns-2 : tie.Need-returns-2
 returns-2 c = simp (lt-leb _ _ (c .if1 .left))
 

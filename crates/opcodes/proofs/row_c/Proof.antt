@@ -1,26 +1,20 @@
 use borrow.Author.Needs.{needs}
 use Rattle.opcodes.proofs.row_c.Statement.{statement}
 use Rattle.opcodes.proofs.row_c.Tie as tie
-use Rattle.opcodes.proofs.row_c.Reads as reads
-use Rattle.opcodes.proofs.row_c.Lts as lts
-use Rattle.word.proofs.lower.Reads as lower-reads
 use native.Mathlib.Omega.{arith}
-use mathlib.Core.Path.{_≡_, refl}
+use mathlib.Core.Path.{refl}
 use Rattle.opcodes.specs.Map.{entryOf, opcodeMap, r-X}
 use Rattle.opcodes.specs.declared.Kind.the-variants.{Ld}
 use Rattle.opcodes.specs.declared.Entry.the-variants.{Blank, Of}
 use Rattle.opcodes.proofs.Cells.{in-part}
 
--- src/lib.rt:280:9
 lower-requires : tie.Need-lower-requires
 lower-requires c κs = search needs
 
--- src/lib.rt:275:1
 returns : tie.Need-returns
 unfolding entryOf opcodeMap
 returns c = in-part (λ hi lo. Of (Ld r-X)) entryOf 12 1 7 1 (c .before .before .args .op) (omega arith) (omega arith) refl
 
--- src/lib.rt:275:1
 returns-2 : tie.Need-returns-2
 unfolding entryOf opcodeMap
 returns-2 c = in-part (λ hi lo. Blank) entryOf 12 1 4 3 (c .before .before .args .op) (omega arith) (omega arith) refl

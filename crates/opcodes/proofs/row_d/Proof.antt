@@ -1,36 +1,28 @@
 use borrow.Author.Needs.{needs}
 use Rattle.opcodes.proofs.row_d.Statement.{statement}
 use Rattle.opcodes.proofs.row_d.Tie as tie
-use Rattle.opcodes.proofs.row_d.Reads as reads
-use Rattle.opcodes.proofs.row_d.Lts as lts
-use Rattle.word.proofs.lower.Reads as lower-reads
 use native.Mathlib.Omega.{arith}
-use mathlib.Core.Path.{_≡_, refl}
+use mathlib.Core.Path.{refl}
 use Rattle.opcodes.specs.Map.{entryOf, opcodeMap, IRR, DA, X-r}
 use Rattle.opcodes.specs.declared.Kind.the-variants.{Call, Ld}
 use Rattle.opcodes.specs.declared.Entry.the-variants.{Blank, Of}
 use Rattle.opcodes.proofs.Cells.{in-part}
 
--- src/lib.rt:293:9
 lower-requires : tie.Need-lower-requires
 lower-requires c κs = search needs
 
--- src/lib.rt:288:1
 returns : tie.Need-returns
 unfolding entryOf opcodeMap
 returns c = in-part (λ hi lo. Of (Call IRR)) entryOf 13 1 4 1 (c .before .before .args .op) (omega arith) (omega arith) refl
 
--- src/lib.rt:288:1
 returns-2 : tie.Need-returns-2
 unfolding entryOf opcodeMap
 returns-2 c = in-part (λ hi lo. Of (Call DA)) entryOf 13 1 6 1 (c .before .before .args .op) (omega arith) (omega arith) refl
 
--- src/lib.rt:288:1
 returns-3 : tie.Need-returns-3
 unfolding entryOf opcodeMap
 returns-3 c = in-part (λ hi lo. Of (Ld X-r)) entryOf 13 1 7 1 (c .before .before .args .op) (omega arith) (omega arith) refl
 
--- src/lib.rt:288:1
 returns-4 : tie.Need-returns-4
 unfolding entryOf opcodeMap
 returns-4 c = in-part (λ hi lo. Blank) entryOf 13 1 5 1 (c .before .before .args .op) (omega arith) (omega arith) refl

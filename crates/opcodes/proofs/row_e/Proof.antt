@@ -1,31 +1,23 @@
 use borrow.Author.Needs.{needs}
 use Rattle.opcodes.proofs.row_e.Statement.{statement}
 use Rattle.opcodes.proofs.row_e.Tie as tie
-use Rattle.opcodes.proofs.row_e.Reads as reads
-use Rattle.opcodes.proofs.row_e.Lts as lts
-use Rattle.opcodes.proofs.two_modes.Reads as two-modes-reads
-use Rattle.word.proofs.lower.Reads as lower-reads
 use native.Mathlib.Omega.{arith}
-use mathlib.Core.Path.{_≡_, refl}
+use mathlib.Core.Path.{refl}
 use Rattle.opcodes.specs.Map.{entryOf, opcodeMap, twoModes}
 use Rattle.opcodes.specs.declared.Kind.the-variants.{Ld}
 use Rattle.opcodes.specs.declared.Entry.the-variants.{Blank, Of}
 use Rattle.opcodes.proofs.Cells.{in-part}
 
--- src/lib.rt:318:9
 lower-requires : tie.Need-lower-requires
 lower-requires c κs = search needs
 
--- src/lib.rt:319:9
 two-modes-requires : tie.Need-two-modes-requires
 two-modes-requires c κs = search needs
 
--- src/lib.rt:313:1
 returns : tie.Need-returns
 unfolding entryOf opcodeMap
 returns c = in-part (λ hi lo. Blank) entryOf 14 1 2 1 (c .before .before .before .args .op) (omega arith) (omega arith) refl
 
--- src/lib.rt:313:1
 returns-2 : tie.Need-returns-2
 unfolding entryOf opcodeMap
 returns-2 c = rw (c .before .two-modes .ensures, c .before .before .lower .ensures) (in-part (λ hi lo. Of (Ld (twoModes lo))) entryOf 14 1 3 5 (c .before .before .before .args .op) (omega arith) (omega arith) refl)

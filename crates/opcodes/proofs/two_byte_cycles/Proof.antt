@@ -1,59 +1,45 @@
 use borrow.Author.Needs.{needs}
 use Rattle.opcodes.proofs.two_byte_cycles.Statement.{statement}
 use Rattle.opcodes.proofs.two_byte_cycles.Tie as tie
-use Rattle.opcodes.proofs.two_byte_cycles.Reads as reads
-use Rattle.opcodes.proofs.two_byte_cycles.Lts as lts
-use Rattle.word.proofs.lower.Reads as lower-reads
-use Rattle.word.proofs.upper.Reads as upper-reads
 use native.Mathlib.Omega.{arith}
-use mathlib.Core.Path.{_≡_, refl}
+use mathlib.Core.Path.{refl}
 use Rattle.opcodes.specs.Cycles.{cyclesOf, cycleMap}
 use Rattle.opcodes.proofs.Cells.{in-part}
 
--- src/lib.rt:429:9
 upper-requires : tie.Need-upper-requires
 upper-requires c κs = search needs
 
--- src/lib.rt:430:9
 lower-requires : tie.Need-lower-requires
 lower-requires c κs = search needs
 
--- src/lib.rt:425:1
 returns : tie.Need-returns
 unfolding cyclesOf cycleMap
 returns c = λ first. in-part (λ hi lo. 6) (λ x. cyclesOf x first) 0 8 2 2 (c .before .before .before .args .op) (omega arith) (omega arith) refl
 
--- src/lib.rt:425:1
 returns-2 : tie.Need-returns-2
 unfolding cyclesOf cycleMap
 returns-2 c = λ first. in-part (λ hi lo. 12) (λ x. cyclesOf x first) 8 2 2 1 (c .before .before .before .before .before .args .op) (omega arith) (omega arith) refl
 
--- src/lib.rt:425:1
 returns-3 : tie.Need-returns-3
 unfolding cyclesOf cycleMap
 returns-3 c = λ first. in-part (λ hi lo. 18) (λ x. cyclesOf x first) 8 2 3 1 (c .before .before .before .before .before .args .op) (omega arith) (omega arith) refl
 
--- src/lib.rt:425:1
 returns-4 : tie.Need-returns-4
 unfolding cyclesOf cycleMap
 returns-4 c = λ first. in-part (λ hi lo. 6) (λ x. cyclesOf x first) 10 2 2 2 (c .before .before .before .before .before .args .op) (omega arith) (omega arith) refl
 
--- src/lib.rt:425:1
 returns-5 : tie.Need-returns-5
 unfolding cyclesOf cycleMap
 returns-5 c = λ first. in-part (λ hi lo. 12) (λ x. cyclesOf x first) 12 2 2 1 (c .before .before .before .before .before .before .before .args .op) (omega arith) (omega arith) refl
 
--- src/lib.rt:425:1
 returns-6 : tie.Need-returns-6
 unfolding cyclesOf cycleMap
 returns-6 c = λ first. in-part (λ hi lo. 18) (λ x. cyclesOf x first) 12 2 3 1 (c .before .before .before .before .before .before .before .args .op) (omega arith) (omega arith) refl
 
--- src/lib.rt:425:1
 returns-7 : tie.Need-returns-7
 unfolding cyclesOf cycleMap
 returns-7 c = λ first. in-part (λ hi lo. 0) (λ x. cyclesOf x first) 14 2 2 1 (c .before .before .before .before .before .before .before .args .op) (omega arith) (omega arith) refl
 
--- src/lib.rt:425:1
 returns-8 : tie.Need-returns-8
 unfolding cyclesOf cycleMap
 returns-8 c = λ first. in-part (λ hi lo. 6) (λ x. cyclesOf x first) 14 2 3 1 (c .before .before .before .before .before .before .before .args .op) (omega arith) (omega arith) refl

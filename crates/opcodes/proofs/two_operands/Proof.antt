@@ -1,11 +1,6 @@
 use borrow.Author.Needs.{needs}
 use Rattle.opcodes.proofs.two_operands.Statement.{statement}
 use Rattle.opcodes.proofs.two_operands.Tie as tie
-use Rattle.opcodes.proofs.two_operands.Reads as reads
-use Rattle.opcodes.proofs.two_operands.Lts as lts
-use Rattle.opcodes.proofs.two_modes.Reads as two-modes-reads
-use Rattle.word.proofs.lower.Reads as lower-reads
-use Rattle.word.proofs.upper.Reads as upper-reads
 use native.Mathlib.Omega.{arith}
 use mathlib.Core.Path.{_≡_, refl}
 use Rattle.opcodes.specs.Map.{entryOf, opcodeMap, twoModes}
@@ -14,54 +9,43 @@ use Rattle.opcodes.specs.declared.Entry.the-variants.{Of}
 use Rattle.word.proofs.Computed.{last}
 use Rattle.opcodes.proofs.Cells.{in-part}
 
--- src/lib.rt:222:9
 upper-requires : tie.Need-upper-requires
 upper-requires c κs = search needs
 
--- src/lib.rt:223:23
 lower-requires : tie.Need-lower-requires
 lower-requires c κs = search needs
 
--- src/lib.rt:223:9
 two-modes-requires : tie.Need-two-modes-requires
 two-modes-requires c κs = search needs
 
--- src/lib.rt:217:1
 returns : tie.Need-returns
 unfolding entryOf opcodeMap
 returns c = rw (c .before .two-modes .ensures, c .before .before .lower .ensures) (in-part (λ hi lo. Of (Add (twoModes lo))) entryOf 0 1 2 6 (c .before .before .before .before .args .op) (omega arith) (omega arith) refl)
 
--- src/lib.rt:217:1
 returns-2 : tie.Need-returns-2
 unfolding entryOf opcodeMap
 returns-2 c = rw (c .before .two-modes .ensures, c .before .before .lower .ensures) (in-part (λ hi lo. Of (Adc (twoModes lo))) entryOf 1 1 2 6 (c .before .before .before .before .args .op) (omega arith) (omega arith) refl)
 
--- src/lib.rt:217:1
 returns-3 : tie.Need-returns-3
 unfolding entryOf opcodeMap
 returns-3 c = rw (c .before .two-modes .ensures, c .before .before .lower .ensures) (in-part (λ hi lo. Of (Sub (twoModes lo))) entryOf 2 1 2 6 (c .before .before .before .before .args .op) (omega arith) (omega arith) refl)
 
--- src/lib.rt:217:1
 returns-4 : tie.Need-returns-4
 unfolding entryOf opcodeMap
 returns-4 c = rw (c .before .two-modes .ensures, c .before .before .lower .ensures) (in-part (λ hi lo. Of (Sbc (twoModes lo))) entryOf 3 1 2 6 (c .before .before .before .before .args .op) (omega arith) (omega arith) refl)
 
--- src/lib.rt:217:1
 returns-5 : tie.Need-returns-5
 unfolding entryOf opcodeMap
 returns-5 c = rw (c .before .two-modes .ensures, c .before .before .lower .ensures) (in-part (λ hi lo. Of (Or (twoModes lo))) entryOf 4 1 2 6 (c .before .before .before .before .args .op) (omega arith) (omega arith) refl)
 
--- src/lib.rt:217:1
 returns-6 : tie.Need-returns-6
 unfolding entryOf opcodeMap
 returns-6 c = rw (c .before .two-modes .ensures, c .before .before .lower .ensures) (in-part (λ hi lo. Of (And (twoModes lo))) entryOf 5 1 2 6 (c .before .before .before .before .args .op) (omega arith) (omega arith) refl)
 
--- src/lib.rt:217:1
 returns-7 : tie.Need-returns-7
 unfolding entryOf opcodeMap
 returns-7 c = rw (c .before .two-modes .ensures, c .before .before .lower .ensures) (in-part (λ hi lo. Of (Tcm (twoModes lo))) entryOf 6 1 2 6 (c .before .before .before .before .args .op) (omega arith) (omega arith) refl)
 
--- src/lib.rt:217:1
 returns-8 : tie.Need-returns-8
 unfolding entryOf opcodeMap
 returns-8 c =

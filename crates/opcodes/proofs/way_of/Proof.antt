@@ -1,14 +1,10 @@
 use Rattle.opcodes.proofs.way_of.Statement.{statement}
 use Rattle.opcodes.proofs.way_of.Tie as tie
-use Rattle.opcodes.proofs.way_of.Reads as reads
-use Rattle.opcodes.proofs.way_of.Lts as lts
 use borrow.Author.Tests.{eq-eqb, ne-eqb}
 
--- src/lib.rt:237:1
 returns : tie.Need-returns
 returns c = simp (eq-eqb _ _ (c .if1 .taken))
 
--- src/lib.rt:237:1
 returns-2 : tie.Need-returns-2
 returns-2 c = simp (ne-eqb _ _ (c .if1 .left))
 

@@ -1,36 +1,24 @@
 use borrow.Author.Needs.{needs}
 use Rattle.alu.proofs.arithmetic.cp.Statement.{statement}
 use Rattle.alu.proofs.arithmetic.cp.Tie as tie
-use Rattle.alu.proofs.arithmetic.cp.Reads as reads
-use Rattle.alu.proofs.arithmetic.cp.Lts as lts
-use Rattle.alu.proofs.arithmetic.difference.Reads as difference-reads
-use Rattle.alu.proofs.arithmetic.difference_overflow.Reads as difference-overflow-reads
-use Rattle.alu.proofs.one_if.Reads as one-if-reads
-use Rattle.alu.proofs.pack.Reads as pack-reads
 use Rattle.alu.specs.Arithmetic.{cpOf}
 use Rattle.alu.specs.FlagByte.{packed}
 
--- src/arithmetic.rt:98:9
 difference-requires : tie.Need-difference-requires
 difference-requires c κs = search needs
 
--- src/arithmetic.rt:99:9
 one-if-requires : tie.Need-one-if-requires
 one-if-requires c κs = search needs
 
--- src/arithmetic.rt:100:9
 one-if-requires-2 : tie.Need-one-if-requires-2
 one-if-requires-2 c κs = search needs
 
--- src/arithmetic.rt:101:9
 difference-overflow-requires : tie.Need-difference-overflow-requires
 difference-overflow-requires c κs = search needs
 
--- src/arithmetic.rt:102:9
 pack-requires : tie.Need-pack-requires
 pack-requires c κs = search needs
 
--- src/arithmetic.rt:95:1
 returns : tie.Need-returns
 unfolding cpOf packed
 returns c = rw (c .pack .ensures, c .before .difference-overflow .ensures .0, c .before .before .one-if2 .ensures .0, c .before .before .before .one-if .ensures .0, c .before .before .before .before .difference .ensures)

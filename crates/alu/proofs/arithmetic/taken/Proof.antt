@@ -1,48 +1,33 @@
 use borrow.Author.Needs.{needs}
 use Rattle.alu.proofs.arithmetic.taken.Statement.{statement}
 use Rattle.alu.proofs.arithmetic.taken.Tie as tie
-use Rattle.alu.proofs.arithmetic.taken.Reads as reads
-use Rattle.alu.proofs.arithmetic.taken.Lts as lts
-use Rattle.alu.proofs.arithmetic.difference.Reads as difference-reads
-use Rattle.alu.proofs.arithmetic.difference_overflow.Reads as difference-overflow-reads
-use Rattle.alu.proofs.one_if.Reads as one-if-reads
-use Rattle.alu.proofs.pack.Reads as pack-reads
 use Rattle.alu.specs.Arithmetic.{takenOf}
 use Rattle.alu.specs.FlagByte.{packed}
 
--- src/arithmetic.rt:70:9
 difference-requires : tie.Need-difference-requires
 difference-requires c κs = search needs
 
--- src/arithmetic.rt:71:45
 add-one-if : tie.Need-add-one-if
 add-one-if c = search needs
 
--- src/arithmetic.rt:71:9
 one-if-requires : tie.Need-one-if-requires
 one-if-requires c κs = search needs
 
--- src/arithmetic.rt:72:39
 add-one-if-2 : tie.Need-add-one-if-2
 add-one-if-2 c = search needs
 
--- src/arithmetic.rt:72:9
 one-if-requires-2 : tie.Need-one-if-requires-2
 one-if-requires-2 c κs = search needs
 
--- src/arithmetic.rt:73:9
 one-if-requires-3 : tie.Need-one-if-requires-3
 one-if-requires-3 c κs = search needs
 
--- src/arithmetic.rt:74:9
 difference-overflow-requires : tie.Need-difference-overflow-requires
 difference-overflow-requires c κs = search needs
 
--- src/arithmetic.rt:75:9
 pack-requires : tie.Need-pack-requires
 pack-requires c κs = search needs
 
--- src/arithmetic.rt:66:1
 returns : tie.Need-returns
 unfolding takenOf packed
 returns c = rw (c .pack .ensures, c .before .difference-overflow .ensures .0, c .before .before .one-if3 .ensures .0, c .before .before .before .one-if2 .ensures .0, c .before .before .before .before .one-if .ensures .0, c .before .before .before .before .before .difference .ensures)

@@ -1,9 +1,6 @@
 use borrow.Author.Needs.{needs}
 use Rattle.alu.proofs.conditions.holds.Statement.{statement}
 use Rattle.alu.proofs.conditions.holds.Tie as tie
-use Rattle.alu.proofs.conditions.holds.Reads as reads
-use Rattle.alu.proofs.conditions.holds.Lts as lts
-use Rattle.alu.proofs.conditions.low.Reads as low-reads
 use native.Mathlib.Omega.{arith}
 use mathlib.Core.Path.{_≡_, refl}
 use Prim.Native.Nat.{ℕ, _+_, _-_, _<_}
@@ -16,19 +13,15 @@ opposite : (k f : ℕ) → k < 8 → f < 256 → not (holdsOf k f) ≡ holdsOf (
 unfolding holdsOf xor
 opposite k f h l = agree2 (λ f k. not (holdsOf k f)) (λ f k. holdsOf (k + 8) f) 256 8 refl f k l h
 
--- src/conditions.rt:32:17
 low-requires : tie.Need-low-requires
 low-requires c κs = search needs
 
--- src/conditions.rt:32:38
 low-requires-2 : tie.Need-low-requires-2
 low-requires-2 c κs = search needs
 
--- src/conditions.rt:28:1
 returns : tie.Need-returns
 returns c = search needs
 
--- src/conditions.rt:28:1
 returns-2 : tie.Need-returns-2
 returns-2 c =
     let cc = c .before .before .args .cc in

@@ -1,68 +1,53 @@
 use borrow.Author.Needs.{needs}
 use Rattle.alu.proofs.conditions.low.Statement.{statement}
 use Rattle.alu.proofs.conditions.low.Tie as tie
-use Rattle.alu.proofs.conditions.low.Reads as reads
-use Rattle.alu.proofs.conditions.low.Lts as lts
-use Rattle.word.proofs.bit.Reads as bit-reads
 use native.Mathlib.Omega.{arith}
-use mathlib.Core.Path.{_≡_, refl}
-use Prim.Native.Nat.{ℕ, _+_, _-_, _<_}
+use mathlib.Core.Path.{_≡_}
+use Prim.Native.Nat.{_-_}
 use mathlib.Core.Bool.{xor}
 use Rattle.word.proofs.Computed.{last}
 use Rattle.alu.specs.Conditions.{holdsOf}
 
--- src/conditions.rt:11:13
 bit-requires : tie.Need-bit-requires
 bit-requires c κs = search needs
 
--- src/conditions.rt:12:13
 bit-requires-2 : tie.Need-bit-requires-2
 bit-requires-2 c κs = search needs
 
--- src/conditions.rt:13:13
 bit-requires-3 : tie.Need-bit-requires-3
 bit-requires-3 c κs = search needs
 
--- src/conditions.rt:14:13
 bit-requires-4 : tie.Need-bit-requires-4
 bit-requires-4 c κs = search needs
 
--- src/conditions.rt:7:1
 returns : tie.Need-returns
 unfolding holdsOf xor
 returns c = rw (c .match .keys1)
 
--- src/conditions.rt:7:1
 returns-2 : tie.Need-returns-2
 unfolding holdsOf xor
 returns-2 c = rw (c .match .keys2, c .before .bit4 .ensures, c .before .before .bit3 .ensures)
 
--- src/conditions.rt:7:1
 returns-3 : tie.Need-returns-3
 unfolding holdsOf xor
 returns-3 c = rw (c .match .keys3, c .before .bit4 .ensures, c .before .before .bit3 .ensures, c .before .before .before .bit2 .ensures)
 
--- src/conditions.rt:7:1
 returns-4 : tie.Need-returns-4
 unfolding holdsOf xor
 returns-4 c = rw (c .match .keys4, c .before .before .before .bit2 .ensures, c .before .before .before .before .bit .ensures)
 
--- src/conditions.rt:7:1
 returns-5 : tie.Need-returns-5
 unfolding holdsOf xor
 returns-5 c = rw (c .match .keys5, c .before .bit4 .ensures)
 
--- src/conditions.rt:7:1
 returns-6 : tie.Need-returns-6
 unfolding holdsOf xor
 returns-6 c = rw (c .match .keys6, c .before .before .bit3 .ensures)
 
--- src/conditions.rt:7:1
 returns-7 : tie.Need-returns-7
 unfolding holdsOf xor
 returns-7 c = rw (c .match .keys7, c .before .before .before .bit2 .ensures)
 
--- src/conditions.rt:7:1
 returns-8 : tie.Need-returns-8
 unfolding holdsOf xor
 returns-8 c =

@@ -1,9 +1,6 @@
 use borrow.Author.Needs.{needs}
 use Rattle.alu.proofs.decimal.after_addition.Statement.{statement}
 use Rattle.alu.proofs.decimal.after_addition.Tie as tie
-use Rattle.alu.proofs.decimal.after_addition.Reads as reads
-use Rattle.alu.proofs.decimal.after_addition.Lts as lts
-use Rattle.alu.proofs.decimal.by.Reads as by-reads
 use native.Mathlib.Omega.{arith}
 use mathlib.Core.Path.{_≡_, refl}
 use Prim.Native.Nat.{ℕ}
@@ -36,88 +33,69 @@ unfolding chain byRows afterAddition
 rows s =
     agree3 (byRows afterAddition) chain 256 2 2 refl (s .args .v) (s .args .c) (s .args .h) (omega arith) (omega arith) (omega arith)
 
--- src/decimal.rt:34:9
 by-requires : tie.Need-by-requires
 by-requires c κs = search needs
 
--- src/decimal.rt:34:9
 returns : tie.Need-returns
 unfolding chain
 returns c = rw (c .by .ensures, rows (c .before .before), c .before .if1 .taken)
 
--- src/decimal.rt:37:9
 by-requires-2 : tie.Need-by-requires-2
 by-requires-2 c κs = search needs
 
--- src/decimal.rt:37:9
 returns-2 : tie.Need-returns-2
 unfolding chain
 returns-2 c = rw (c .by2 .ensures, rows (c .before .before .before), c .before .before .if1 .left, c .before .if2 .taken)
 
--- src/decimal.rt:40:9
 by-requires-3 : tie.Need-by-requires-3
 by-requires-3 c κs = search needs
 
--- src/decimal.rt:40:9
 returns-3 : tie.Need-returns-3
 unfolding chain
 returns-3 c = rw (c .by3 .ensures, rows (c .before .before .before .before), c .before .before .before .if1 .left, c .before .before .if2 .left, c .before .if3 .taken)
 
--- src/decimal.rt:43:9
 by-requires-4 : tie.Need-by-requires-4
 by-requires-4 c κs = search needs
 
--- src/decimal.rt:43:9
 returns-4 : tie.Need-returns-4
 unfolding chain
 returns-4 c = rw (c .by4 .ensures, rows (c .before .before .before .before .before), c .before .before .before .before .if1 .left, c .before .before .before .if2 .left, c .before .before .if3 .left, c .before .if4 .taken)
 
--- src/decimal.rt:46:9
 by-requires-5 : tie.Need-by-requires-5
 by-requires-5 c κs = search needs
 
--- src/decimal.rt:46:9
 returns-5 : tie.Need-returns-5
 unfolding chain
 returns-5 c = rw (c .by5 .ensures, rows (c .before .before .before .before .before .before), c .before .before .before .before .before .if1 .left, c .before .before .before .before .if2 .left, c .before .before .before .if3 .left, c .before .before .if4 .left, c .before .if5 .taken)
 
--- src/decimal.rt:49:9
 by-requires-6 : tie.Need-by-requires-6
 by-requires-6 c κs = search needs
 
--- src/decimal.rt:49:9
 returns-6 : tie.Need-returns-6
 unfolding chain
 returns-6 c = rw (c .by6 .ensures, rows (c .before .before .before .before .before .before .before), c .before .before .before .before .before .before .if1 .left, c .before .before .before .before .before .if2 .left, c .before .before .before .before .if3 .left, c .before .before .before .if4 .left, c .before .before .if5 .left, c .before .if6 .taken)
 
--- src/decimal.rt:52:9
 by-requires-7 : tie.Need-by-requires-7
 by-requires-7 c κs = search needs
 
--- src/decimal.rt:52:9
 returns-7 : tie.Need-returns-7
 unfolding chain
 returns-7 c = rw (c .by7 .ensures, rows (c .before .before .before .before .before .before .before .before), c .before .before .before .before .before .before .before .if1 .left, c .before .before .before .before .before .before .if2 .left, c .before .before .before .before .before .if3 .left, c .before .before .before .before .if4 .left, c .before .before .before .if5 .left, c .before .before .if6 .left, c .before .if7 .taken)
 
--- src/decimal.rt:55:9
 by-requires-8 : tie.Need-by-requires-8
 by-requires-8 c κs = search needs
 
--- src/decimal.rt:55:9
 returns-8 : tie.Need-returns-8
 unfolding chain
 returns-8 c = rw (c .by8 .ensures, rows (c .before .before .before .before .before .before .before .before .before), c .before .before .before .before .before .before .before .before .if1 .left, c .before .before .before .before .before .before .before .if2 .left, c .before .before .before .before .before .before .if3 .left, c .before .before .before .before .before .if4 .left, c .before .before .before .before .if5 .left, c .before .before .before .if6 .left, c .before .before .if7 .left, c .before .if8 .taken)
 
--- src/decimal.rt:58:9
 by-requires-9 : tie.Need-by-requires-9
 by-requires-9 c κs = search needs
 
--- src/decimal.rt:58:9
 returns-9 : tie.Need-returns-9
 unfolding chain
 returns-9 c = rw (c .by9 .ensures, rows (c .before .before .before .before .before .before .before .before .before .before), c .before .before .before .before .before .before .before .before .before .if1 .left, c .before .before .before .before .before .before .before .before .if2 .left, c .before .before .before .before .before .before .before .if3 .left, c .before .before .before .before .before .before .if4 .left, c .before .before .before .before .before .if5 .left, c .before .before .before .before .if6 .left, c .before .before .before .if7 .left, c .before .before .if8 .left, c .before .if9 .taken)
 
--- src/decimal.rt:26:1
 returns-10 : tie.Need-returns-10
 unfolding chain
 returns-10 c = rw (rows (c .before .before .before .before .before .before .before .before .before), c .before .before .before .before .before .before .before .before .if1 .left, c .before .before .before .before .before .before .before .if2 .left, c .before .before .before .before .before .before .if3 .left, c .before .before .before .before .before .if4 .left, c .before .before .before .before .if5 .left, c .before .before .before .if6 .left, c .before .before .if7 .left, c .before .if8 .left, c .if9 .left)

@@ -1,9 +1,6 @@
 use borrow.Author.Needs.{needs}
 use Rattle.alu.proofs.decimal.after_subtraction.Statement.{statement}
 use Rattle.alu.proofs.decimal.after_subtraction.Tie as tie
-use Rattle.alu.proofs.decimal.after_subtraction.Reads as reads
-use Rattle.alu.proofs.decimal.after_subtraction.Lts as lts
-use Rattle.alu.proofs.decimal.by.Reads as by-reads
 use native.Mathlib.Omega.{arith}
 use mathlib.Core.Path.{_≡_, refl}
 use Prim.Native.Nat.{ℕ}
@@ -31,43 +28,34 @@ unfolding chain byRows afterSubtraction
 rows s =
     agree3 (byRows afterSubtraction) chain 256 2 2 refl (s .args .v) (s .args .c) (s .args .h) (omega arith) (omega arith) (omega arith)
 
--- src/decimal.rt:72:9
 by-requires : tie.Need-by-requires
 by-requires c κs = search needs
 
--- src/decimal.rt:72:9
 returns : tie.Need-returns
 unfolding chain
 returns c = rw (c .by .ensures, rows (c .before .before), c .before .if1 .taken)
 
--- src/decimal.rt:75:9
 by-requires-2 : tie.Need-by-requires-2
 by-requires-2 c κs = search needs
 
--- src/decimal.rt:75:9
 returns-2 : tie.Need-returns-2
 unfolding chain
 returns-2 c = rw (c .by2 .ensures, rows (c .before .before .before), c .before .before .if1 .left, c .before .if2 .taken)
 
--- src/decimal.rt:78:9
 by-requires-3 : tie.Need-by-requires-3
 by-requires-3 c κs = search needs
 
--- src/decimal.rt:78:9
 returns-3 : tie.Need-returns-3
 unfolding chain
 returns-3 c = rw (c .by3 .ensures, rows (c .before .before .before .before), c .before .before .before .if1 .left, c .before .before .if2 .left, c .before .if3 .taken)
 
--- src/decimal.rt:81:9
 by-requires-4 : tie.Need-by-requires-4
 by-requires-4 c κs = search needs
 
--- src/decimal.rt:81:9
 returns-4 : tie.Need-returns-4
 unfolding chain
 returns-4 c = rw (c .by4 .ensures, rows (c .before .before .before .before .before), c .before .before .before .before .if1 .left, c .before .before .before .if2 .left, c .before .before .if3 .left, c .before .if4 .taken)
 
--- src/decimal.rt:64:1
 returns-5 : tie.Need-returns-5
 unfolding chain
 returns-5 c = rw (rows (c .before .before .before .before), c .before .before .before .if1 .left, c .before .before .if2 .left, c .before .if3 .left, c .if4 .left)

@@ -1,40 +1,28 @@
 use borrow.Author.Needs.{needs}
 use Rattle.alu.proofs.decimal.da.Statement.{statement}
 use Rattle.alu.proofs.decimal.da.Tie as tie
-use Rattle.alu.proofs.decimal.da.Reads as reads
-use Rattle.alu.proofs.decimal.da.Lts as lts
-use Rattle.alu.proofs.decimal.after_addition.Reads as after-addition-reads
-use Rattle.alu.proofs.decimal.after_subtraction.Reads as after-subtraction-reads
-use Rattle.word.proofs.bit.Reads as bit-reads
 use borrow.Author.Tests.{eq-eqb, ne-eqb}
 use Rattle.alu.specs.Decimal.{daOf}
 
--- src/decimal.rt:89:9
 bit-requires : tie.Need-bit-requires
 bit-requires c κs = search needs
 
--- src/decimal.rt:90:9
 bit-requires-2 : tie.Need-bit-requires-2
 bit-requires-2 c κs = search needs
 
--- src/decimal.rt:91:9
 bit-requires-3 : tie.Need-bit-requires-3
 bit-requires-3 c κs = search needs
 
--- src/decimal.rt:93:9
 after-addition-requires : tie.Need-after-addition-requires
 after-addition-requires c κs = search needs
 
--- src/decimal.rt:95:9
 after-subtraction-requires : tie.Need-after-subtraction-requires
 after-subtraction-requires c κs = search needs
 
--- src/decimal.rt:86:1
 returns : tie.Need-returns
 unfolding daOf
 returns c = rw (c .after-addition .ensures, c .before .before .bit3 .ensures, c .before .before .before .before .bit .ensures, ← c .before .before .before .bit2 .ensures, eq-eqb _ _ (c .before .if1 .taken))
 
--- src/decimal.rt:86:1
 returns-2 : tie.Need-returns-2
 unfolding daOf
 returns-2 c = rw (c .after-subtraction .ensures, c .before .before .bit3 .ensures, c .before .before .before .before .bit .ensures, ← c .before .before .before .bit2 .ensures, ne-eqb _ _ (c .before .if1 .left))

@@ -1,16 +1,11 @@
 use borrow.Author.Needs.{needs}
 use Rattle.alu.proofs.logical.xor.Statement.{statement}
 use Rattle.alu.proofs.logical.xor.Tie as tie
-use Rattle.alu.proofs.logical.xor.Reads as reads
-use Rattle.alu.proofs.logical.xor.Lts as lts
-use Rattle.alu.proofs.logical.logic_flags.Reads as logic-flags-reads
 use Rattle.alu.specs.Logical.{xorOf}
 
--- src/logical.rt:38:9
 logic-flags-requires : tie.Need-logic-flags-requires
 logic-flags-requires c κs = search needs
 
--- src/logical.rt:34:1
 returns : tie.Need-returns
 unfolding xorOf
 returns c = rw (c .logic-flags .ensures)

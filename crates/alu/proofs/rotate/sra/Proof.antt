@@ -1,30 +1,21 @@
 use borrow.Author.Needs.{needs}
 use Rattle.alu.proofs.rotate.sra.Statement.{statement}
 use Rattle.alu.proofs.rotate.sra.Tie as tie
-use Rattle.alu.proofs.rotate.sra.Reads as reads
-use Rattle.alu.proofs.rotate.sra.Lts as lts
-use Rattle.alu.proofs.one_if.Reads as one-if-reads
-use Rattle.alu.proofs.pack.Reads as pack-reads
 use Rattle.alu.specs.Rotate.{sraOf}
 use Rattle.alu.specs.FlagByte.{packed}
 
--- src/rotate.rt:57:25
 mul-value : tie.Need-mul-value
 mul-value c = search needs
 
--- src/rotate.rt:57:17
 add-value : tie.Need-add-value
 add-value c = search needs
 
--- src/rotate.rt:58:9
 one-if-requires : tie.Need-one-if-requires
 one-if-requires c κs = search needs
 
--- src/rotate.rt:59:9
 pack-requires : tie.Need-pack-requires
 pack-requires c κs = search needs
 
--- src/rotate.rt:54:1
 returns : tie.Need-returns
 unfolding sraOf packed
 returns c = rw (c .pack .ensures, c .before .one-if .ensures .0)
