@@ -1,3 +1,4 @@
 pub mod Map
+pub mod Columns
 pub mod Cycles
 pub mod Instruction

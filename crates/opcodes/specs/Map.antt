@@ -1,11 +1,9 @@
 -- The opcode map of 004, Appendix C, as printed: a row for each upper nibble of the opcode, a column for each lower one. Each
 -- entry gives the kind of instruction, its mnemonic and its address modes (5.4), destination first; "the blank areas are not
 -- defined". Where our copy of Appendix C has lost rows, the maps of 000 and 003 have them. Assumes nothing.
-use Prim.Native.Nat.{ℕ, _-_, _%_}
+use Prim.Native.Nat.{ℕ, _-_}
 use mathlib.Core.List.{List, [], _∷_}
-use lib.Dec.{eqb}
 use lib.ListN.{getD}
-use Rattle.word.specs.Choose.{pick}
 use Rattle.word.specs.Fields.{upper, lower}
 use Rattle.opcodes.specs.declared.Entry.{Entry}
 use Rattle.opcodes.specs.declared.Entry.the-variants.{Blank, Of}
@@ -127,15 +125,3 @@ opcodeMap =
 -- what the map has at an opcode
 unfoldable pub entryOf : ℕ → Entry
 entryOf op = getD (getD opcodeMap (upper op) []) (lower op) Blank
-
--- the address mode in columns 0 and 1
-abbrev pub oneMode : ℕ → One
-oneMode lo = pick (eqb lo 0) R IR
-
--- the address modes in columns 2 to 7 of an instruction that has all six of them (5.5, note 1)
-abbrev pub twoModes : ℕ → Two
-twoModes lo = getD (r-r ∷ r-Ir ∷ R-R ∷ R-IR ∷ R-IM ∷ IR-IM ∷ []) (lo - 2) IR-IM
-
--- the way in rows 8 and 9, C and D
-abbrev pub wayOf : ℕ → Way
-wayOf hi = pick (eqb (hi % 2) 0) way.In way.Out

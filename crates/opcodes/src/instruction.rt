@@ -1,0 +1,65 @@
+// Lengths, and an instruction from its bytes and to its bytes.
+use crate::Decoded;
+use crate::Encoded;
+use crate::Entry;
+ghost use mathlib.Core.Path.{_≡_};
+ghost use lib.Dec.{leb};
+ghost use Rattle.word.specs.Choose.{pick};
+ghost use Rattle.opcodes.specs.Instruction.{lengthOf, decodeOf, encodeOf};
+
+// 01's table.
+const OPCODE_UNDEFINED: u8 = 5;
+
+const NO_INSTRUCTION: u8 = 8;
+
+// An instruction's length, by the lower nibble; CALL @RR is the one exception.
+pub fn length_of(op: u8) -> u8
+    ensures { λ r. ⌜ r ≡ lengthOf op ⌝ }
+{
+    if op == 0xD4 {
+        return 2;
+    }
+    let lo = word::lower(op);
+    match lo {
+        0..=3 | 8..=12 => 2,
+        4..=7 | 13 => 3,
+        _ => 1,
+    }
+}
+
+// Operand byte b, the instruction's byte number n: zero where an instruction of that length hasn't it.
+fn operand(n: u8, length: u8, b: u8) -> u8
+    ensures { λ r. ⌜ r ≡ pick (leb n length) b 0 ⌝ }
+{
+    if n <= length { b } else { 0 }
+}
+
+// The instruction that begins at the first of three bytes of a program.
+pub fn decode(op: u8, a: u8, b: u8) -> Decoded
+    ensures { λ r. ⌜ r ≡ decodeOf op a b ⌝ }
+{
+    let e = crate::map::entry_of(op);
+    let n = length_of(op);
+    let first = operand(2, n, a);
+    let second = operand(3, n, b);
+    match e {
+        Entry::Blank => Decoded::Refused(OPCODE_UNDEFINED),
+        Entry::Of(_) => Decoded::Instruction(op, first, second, n),
+    }
+}
+
+// An instruction's bytes.
+pub fn encode(op: u8, a: u8, b: u8) -> Encoded
+    ensures { λ r. ⌜ r ≡ encodeOf op a b ⌝ }
+{
+    let e = crate::map::entry_of(op);
+    let n = length_of(op);
+    match e {
+        Entry::Blank => Encoded::Refused(NO_INSTRUCTION),
+        Entry::Of(_) => if ((2 <= n) | (a == 0)) & ((3 <= n) | (b == 0)) {
+            Encoded::Bytes(n, op, a, b)
+        } else {
+            Encoded::Refused(NO_INSTRUCTION)
+        },
+    }
+}
