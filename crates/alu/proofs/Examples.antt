@@ -4,7 +4,7 @@ use mathlib.Core.List.{List, [], _∷_}
 use lib.Dec.{T}
 use Rattle.word.specs.Words.{dispOf, movedBy}
 use Rattle.alu.specs.FlagByte.{laid, packed}
-use Rattle.alu.specs.Arithmetic.{addOf, sumOf, subOf, takenOf, differenceOf, incOf, decwOf, sumOverflow, differenceOverflow}
+use Rattle.alu.specs.Arithmetic.{addOf, additionOf, subOf, subtractionOf, differenceOf, incOf, decwOf, sumOverflow, differenceOverflow}
 use Rattle.alu.specs.Logical.{andOf, logicFlags}
 use Rattle.alu.specs.Rotate.{rlOf, sraOf, rotateFlags}
 use Rattle.alu.specs.Decimal.{daOf, byRows, added, afterAddition, afterSubtraction}
@@ -15,5 +15,5 @@ all [] = true
 all (b ∷ bs) = b && all bs
 
 pub examples-hold : T (all examples)
-unfolding examples laid packed addOf sumOf subOf takenOf differenceOf incOf decwOf sumOverflow differenceOverflow andOf logicFlags rlOf sraOf rotateFlags daOf byRows added afterAddition afterSubtraction dispOf movedBy
+unfolding examples laid packed addOf additionOf subOf subtractionOf differenceOf incOf decwOf sumOverflow differenceOverflow andOf logicFlags rlOf sraOf rotateFlags daOf byRows added afterAddition afterSubtraction dispOf movedBy
 examples-hold = tt

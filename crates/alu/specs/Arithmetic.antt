@@ -24,8 +24,8 @@ abbrev pub borrow : ℕ → ℕ → ℕ
 borrow a taken = oneIf (ltb a taken)
 
 -- dst <-- dst + src + c. H: "a carry from the low-order nibble"
-unfoldable pub sumOf : ℕ → ℕ → ℕ → Outcome
-sumOf a b c =
+unfoldable pub additionOf : ℕ → ℕ → ℕ → Outcome
+additionOf a b c =
     let r : ℕ = (a + b + c) % 256 in
     record {
       value = r;
@@ -35,19 +35,19 @@ sumOf a b c =
     }
 
 unfoldable pub addOf : ℕ → ℕ → Outcome
-addOf a b = sumOf a b 0
+addOf a b = additionOf a b 0
 
 -- C is that of the flags read, from before anything is written
 unfoldable pub adcOf : ℕ → ℕ → ℕ → Outcome
-adcOf a b read = sumOf a b (carry read)
+adcOf a b read = additionOf a b (carry read)
 
 -- dst - src - c
 unfoldable pub differenceOf : ℕ → ℕ → ℕ → ℕ
 differenceOf a b c = (a + 256 - b - c) % 256
 
 -- dst <-- dst - src - c. C and H: set "indicating a borrow"
-unfoldable pub takenOf : ℕ → ℕ → ℕ → Outcome
-takenOf a b c =
+unfoldable pub subtractionOf : ℕ → ℕ → ℕ → Outcome
+subtractionOf a b c =
     let r : ℕ = differenceOf a b c in
     record {
       value = r;
@@ -57,10 +57,10 @@ takenOf a b c =
     }
 
 unfoldable pub subOf : ℕ → ℕ → Outcome
-subOf a b = takenOf a b 0
+subOf a b = subtractionOf a b 0
 
 unfoldable pub sbcOf : ℕ → ℕ → ℕ → Outcome
-sbcOf a b read = takenOf a b (carry read)
+sbcOf a b read = subtractionOf a b (carry read)
 
 -- CP: dst - src, which is stored nowhere; H and D unaffected
 unfoldable pub cpOf : ℕ → ℕ → Flags

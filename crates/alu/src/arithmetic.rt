@@ -5,7 +5,7 @@ use crate::WordOutcome;
 ghost use mathlib.Core.Path.{_≡_};
 ghost use Prim.Native.Nat.{_<_};
 ghost use Rattle.alu.specs.FlagByte.{sign16};
-ghost use Rattle.alu.specs.Arithmetic.{sumOverflow, differenceOverflow, sumOf, addOf, adcOf, differenceOf, takenOf, subOf, sbcOf, cpOf, counted, incOf, decOf, incwOf, decwOf};
+ghost use Rattle.alu.specs.Arithmetic.{sumOverflow, differenceOverflow, additionOf, addOf, adcOf, differenceOf, subtractionOf, subOf, sbcOf, cpOf, counted, incOf, decOf, incwOf, decwOf};
 
 // V of a sum, by the signs of destination, source and result.
 fn sum_overflow(dst: u8, src: u8, r: u8) -> u8
@@ -23,10 +23,10 @@ fn difference_overflow(dst: u8, src: u8, r: u8) -> u8
     crate::one_if((dst != src) & (r == src))
 }
 
-// a + b + c
-fn sum(a: u8, b: u8, c: u8) -> Outcome
+// a + b + c, with its flags: ADD and ADC.
+fn addition(a: u8, b: u8, c: u8) -> Outcome
     requires { ⌜ c < 2 ⌝ }
-    ensures { λ r. ⌜ r ≡ sumOf a b c ⌝ }
+    ensures { λ r. ⌜ r ≡ additionOf a b c ⌝ }
 {
     let wide = a as u16 + b as u16 + c as u16;
     let value = (wide % 256) as u8;
@@ -45,16 +45,16 @@ fn sum(a: u8, b: u8, c: u8) -> Outcome
 pub fn add(a: u8, b: u8) -> Outcome
     ensures { λ r. ⌜ r ≡ addOf a b ⌝ }
 {
-    sum(a, b, 0)
+    addition(a, b, 0)
 }
 
 pub fn adc(a: u8, b: u8, read: u8) -> Outcome
     ensures { λ r. ⌜ r ≡ adcOf a b read ⌝ }
 {
-    sum(a, b, word::bit(7, read))
+    addition(a, b, word::bit(7, read))
 }
 
-// a - b - c, modulo 256
+// a - b - c, modulo 256.
 fn difference(a: u8, b: u8, c: u8) -> u8
     requires { ⌜ c < 2 ⌝ }
     ensures { λ r. ⌜ r ≡ differenceOf a b c ⌝ }
@@ -62,10 +62,10 @@ fn difference(a: u8, b: u8, c: u8) -> u8
     ((a as u16 + 256 - b as u16 - c as u16) % 256) as u8
 }
 
-// a - b - c
-fn taken(a: u8, b: u8, c: u8) -> Outcome
+// a - b - c, with its flags: SUB and SBC.
+fn subtraction(a: u8, b: u8, c: u8) -> Outcome
     requires { ⌜ c < 2 ⌝ }
-    ensures { λ r. ⌜ r ≡ takenOf a b c ⌝ }
+    ensures { λ r. ⌜ r ≡ subtractionOf a b c ⌝ }
 {
     let value = difference(a, b, c);
     let borrow = crate::one_if((a as u16) < b as u16 + c as u16);
@@ -83,13 +83,13 @@ fn taken(a: u8, b: u8, c: u8) -> Outcome
 pub fn sub(a: u8, b: u8) -> Outcome
     ensures { λ r. ⌜ r ≡ subOf a b ⌝ }
 {
-    taken(a, b, 0)
+    subtraction(a, b, 0)
 }
 
 pub fn sbc(a: u8, b: u8, read: u8) -> Outcome
     ensures { λ r. ⌜ r ≡ sbcOf a b read ⌝ }
 {
-    taken(a, b, word::bit(7, read))
+    subtraction(a, b, word::bit(7, read))
 }
 
 pub fn cp(a: u8, b: u8) -> Flags

@@ -23,24 +23,25 @@ n │ fs = always n ∷ fs
 abbrev across : Figure → List Figure
 across alone = 6 │ 6 │ 12 or 10 ∷ 12 or 10 ∷ 6 │ 12 or 10 ∷ 6 │ alone ∷ []
 
+-- columns 0 to 7, then 8 to F; the upper nibble stands behind its row
 unfoldable pub cycleMap : List (List Figure)
 cycleMap =
-    (6 │ 6 │ 6 │ 6 │ 10 │ 10 │ 10 │ 10 │ across blank)
-    ∷ (6 │ 6 │ 6 │ 6 │ 10 │ 10 │ 10 │ 10 │ across blank)
-    ∷ (6 │ 6 │ 6 │ 6 │ 10 │ 10 │ 10 │ 10 │ across blank)
-    ∷ (8 │ 6 │ 6 │ 6 │ 10 │ 10 │ 10 │ 10 │ across blank)
-    ∷ (8 │ 8 │ 6 │ 6 │ 10 │ 10 │ 10 │ 10 │ across blank)
-    ∷ (10 │ 10 │ 6 │ 6 │ 10 │ 10 │ 10 │ 10 │ across blank)
-    ∷ (6 │ 6 │ 6 │ 6 │ 10 │ 10 │ 10 │ 10 │ across blank)
-    ∷ (10 or 12 ∷ 12 or 14 ∷ 6 │ 6 │ 10 │ 10 │ 10 │ 10 │ across blank)
-    ∷ (10 │ 10 │ 12 │ 18 │ blank ∷ blank ∷ blank ∷ blank ∷ across (always 6))
-    ∷ (6 │ 6 │ 12 │ 18 │ blank ∷ blank ∷ blank ∷ blank ∷ across (always 6))
-    ∷ (10 │ 10 │ 6 │ 6 │ 10 │ 10 │ 10 │ 10 │ across (always 14))
-    ∷ (6 │ 6 │ 6 │ 6 │ 10 │ 10 │ 10 │ 10 │ across (always 16))
-    ∷ (6 │ 6 │ 12 │ 18 │ blank ∷ blank ∷ blank ∷ 10 │ across (always 6))
-    ∷ (6 │ 6 │ 12 │ 18 │ 20 │ blank ∷ 20 │ 10 │ across (always 6))
-    ∷ (6 │ 6 │ blank ∷ 6 │ 10 │ 10 │ 10 │ 10 │ across (always 6))
-    ∷ (8 │ 8 │ blank ∷ 6 │ blank ∷ 10 │ blank ∷ blank ∷ across (always 6))
+    (6 │ 6 │ 6 │ 6 │ 10 │ 10 │ 10 │ 10 │ across blank)  -- 0
+    ∷ (6 │ 6 │ 6 │ 6 │ 10 │ 10 │ 10 │ 10 │ across blank)  -- 1
+    ∷ (6 │ 6 │ 6 │ 6 │ 10 │ 10 │ 10 │ 10 │ across blank)  -- 2
+    ∷ (8 │ 6 │ 6 │ 6 │ 10 │ 10 │ 10 │ 10 │ across blank)  -- 3
+    ∷ (8 │ 8 │ 6 │ 6 │ 10 │ 10 │ 10 │ 10 │ across blank)  -- 4
+    ∷ (10 │ 10 │ 6 │ 6 │ 10 │ 10 │ 10 │ 10 │ across blank)  -- 5
+    ∷ (6 │ 6 │ 6 │ 6 │ 10 │ 10 │ 10 │ 10 │ across blank)  -- 6
+    ∷ (10 or 12 ∷ 12 or 14 ∷ 6 │ 6 │ 10 │ 10 │ 10 │ 10 │ across blank)  -- 7
+    ∷ (10 │ 10 │ 12 │ 18 │ blank ∷ blank ∷ blank ∷ blank ∷ across (always 6))  -- 8
+    ∷ (6 │ 6 │ 12 │ 18 │ blank ∷ blank ∷ blank ∷ blank ∷ across (always 6))  -- 9
+    ∷ (10 │ 10 │ 6 │ 6 │ 10 │ 10 │ 10 │ 10 │ across (always 14))  -- A
+    ∷ (6 │ 6 │ 6 │ 6 │ 10 │ 10 │ 10 │ 10 │ across (always 16))  -- B
+    ∷ (6 │ 6 │ 12 │ 18 │ blank ∷ blank ∷ blank ∷ 10 │ across (always 6))  -- C
+    ∷ (6 │ 6 │ 12 │ 18 │ 20 │ blank ∷ 20 │ 10 │ across (always 6))  -- D
+    ∷ (6 │ 6 │ blank ∷ 6 │ 10 │ 10 │ 10 │ 10 │ across (always 6))  -- E
+    ∷ (8 │ 8 │ blank ∷ 6 │ blank ∷ 10 │ blank ∷ blank ∷ across (always 6))  -- F
     ∷ []
 
 -- a figure by its outcome: the first, or the second. A blank area costs nothing, as it is never executed.

@@ -1,7 +1,7 @@
 -- The opcode map of 004, Appendix C, as printed: a row for each upper nibble of the opcode, a column for each lower one. Each
 -- entry gives the kind of instruction, its mnemonic and its address modes (5.4), destination first; "the blank areas are not
 -- defined". Where our copy of Appendix C has lost rows, the maps of 000 and 003 have them. Assumes nothing.
-use Prim.Native.Nat.{ℕ, _-_}
+use Prim.Native.Nat.{ℕ}
 use mathlib.Core.List.{List, [], _∷_}
 use lib.ListN.{getD}
 use Rattle.word.specs.Fields.{upper, lower}
@@ -102,24 +102,25 @@ k │ es = Of k ∷ es
 abbrev across : Entry → List Entry
 across alone = Ld r-R │ Ld R-r │ Djnz │ Jr │ Ld r-IM │ Jp DA │ Inc r │ alone ∷ []
 
+-- columns 0 to 7, then 8 to F; the upper nibble stands behind its row
 unfoldable pub opcodeMap : List (List Entry)
 opcodeMap =
-    (Dec R │ Dec IR │ Add r-r │ Add r-Ir │ Add R-R │ Add R-IR │ Add R-IM │ Add IR-IM │ across Blank)
-    ∷ (Rlc R │ Rlc IR │ Adc r-r │ Adc r-Ir │ Adc R-R │ Adc R-IR │ Adc R-IM │ Adc IR-IM │ across Blank)
-    ∷ (Inc R │ Inc IR │ Sub r-r │ Sub r-Ir │ Sub R-R │ Sub R-IR │ Sub R-IM │ Sub IR-IM │ across Blank)
-    ∷ (Jp IRR │ Srp │ Sbc r-r │ Sbc r-Ir │ Sbc R-R │ Sbc R-IR │ Sbc R-IM │ Sbc IR-IM │ across Blank)
-    ∷ (Da R │ Da IR │ Or r-r │ Or r-Ir │ Or R-R │ Or R-IR │ Or R-IM │ Or IR-IM │ across Blank)
-    ∷ (Pop R │ Pop IR │ And r-r │ And r-Ir │ And R-R │ And R-IR │ And R-IM │ And IR-IM │ across Blank)
-    ∷ (Com R │ Com IR │ Tcm r-r │ Tcm r-Ir │ Tcm R-R │ Tcm R-IR │ Tcm R-IM │ Tcm IR-IM │ across Blank)
-    ∷ (Push R │ Push IR │ Tm r-r │ Tm r-Ir │ Tm R-R │ Tm R-IR │ Tm R-IM │ Tm IR-IM │ across Blank)
-    ∷ (Decw RR │ Decw IR │ Lde r-Irr │ Ldei Ir-Irr │ Blank ∷ Blank ∷ Blank ∷ Blank ∷ across (Of Di))
-    ∷ (Rl R │ Rl IR │ Lde Irr-r │ Ldei Irr-Ir │ Blank ∷ Blank ∷ Blank ∷ Blank ∷ across (Of Ei))
-    ∷ (Incw RR │ Incw IR │ Cp r-r │ Cp r-Ir │ Cp R-R │ Cp R-IR │ Cp R-IM │ Cp IR-IM │ across (Of Ret))
-    ∷ (Clr R │ Clr IR │ Xor r-r │ Xor r-Ir │ Xor R-R │ Xor R-IR │ Xor R-IM │ Xor IR-IM │ across (Of Iret))
-    ∷ (Rrc R │ Rrc IR │ Ldc r-Irr │ Ldci Ir-Irr │ Blank ∷ Blank ∷ Blank ∷ Ld r-X │ across (Of Rcf))
-    ∷ (Sra R │ Sra IR │ Ldc Irr-r │ Ldci Irr-Ir │ Call IRR │ Blank ∷ Call DA │ Ld X-r │ across (Of Scf))
-    ∷ (Rr R │ Rr IR │ Blank ∷ Ld r-Ir │ Ld R-R │ Ld R-IR │ Ld R-IM │ Ld IR-IM │ across (Of Ccf))
-    ∷ (Swap R │ Swap IR │ Blank ∷ Ld Ir-r │ Blank ∷ Ld IR-R │ Blank ∷ Blank ∷ across (Of Nop))
+    (Dec R │ Dec IR │ Add r-r │ Add r-Ir │ Add R-R │ Add R-IR │ Add R-IM │ Add IR-IM │ across Blank)  -- 0
+    ∷ (Rlc R │ Rlc IR │ Adc r-r │ Adc r-Ir │ Adc R-R │ Adc R-IR │ Adc R-IM │ Adc IR-IM │ across Blank)  -- 1
+    ∷ (Inc R │ Inc IR │ Sub r-r │ Sub r-Ir │ Sub R-R │ Sub R-IR │ Sub R-IM │ Sub IR-IM │ across Blank)  -- 2
+    ∷ (Jp IRR │ Srp │ Sbc r-r │ Sbc r-Ir │ Sbc R-R │ Sbc R-IR │ Sbc R-IM │ Sbc IR-IM │ across Blank)  -- 3
+    ∷ (Da R │ Da IR │ Or r-r │ Or r-Ir │ Or R-R │ Or R-IR │ Or R-IM │ Or IR-IM │ across Blank)  -- 4
+    ∷ (Pop R │ Pop IR │ And r-r │ And r-Ir │ And R-R │ And R-IR │ And R-IM │ And IR-IM │ across Blank)  -- 5
+    ∷ (Com R │ Com IR │ Tcm r-r │ Tcm r-Ir │ Tcm R-R │ Tcm R-IR │ Tcm R-IM │ Tcm IR-IM │ across Blank)  -- 6
+    ∷ (Push R │ Push IR │ Tm r-r │ Tm r-Ir │ Tm R-R │ Tm R-IR │ Tm R-IM │ Tm IR-IM │ across Blank)  -- 7
+    ∷ (Decw RR │ Decw IR │ Lde r-Irr │ Ldei Ir-Irr │ Blank ∷ Blank ∷ Blank ∷ Blank ∷ across (Of Di))  -- 8
+    ∷ (Rl R │ Rl IR │ Lde Irr-r │ Ldei Irr-Ir │ Blank ∷ Blank ∷ Blank ∷ Blank ∷ across (Of Ei))  -- 9
+    ∷ (Incw RR │ Incw IR │ Cp r-r │ Cp r-Ir │ Cp R-R │ Cp R-IR │ Cp R-IM │ Cp IR-IM │ across (Of Ret))  -- A
+    ∷ (Clr R │ Clr IR │ Xor r-r │ Xor r-Ir │ Xor R-R │ Xor R-IR │ Xor R-IM │ Xor IR-IM │ across (Of Iret))  -- B
+    ∷ (Rrc R │ Rrc IR │ Ldc r-Irr │ Ldci Ir-Irr │ Blank ∷ Blank ∷ Blank ∷ Ld r-X │ across (Of Rcf))  -- C
+    ∷ (Sra R │ Sra IR │ Ldc Irr-r │ Ldci Irr-Ir │ Call IRR │ Blank ∷ Call DA │ Ld X-r │ across (Of Scf))  -- D
+    ∷ (Rr R │ Rr IR │ Blank ∷ Ld r-Ir │ Ld R-R │ Ld R-IR │ Ld R-IM │ Ld IR-IM │ across (Of Ccf))  -- E
+    ∷ (Swap R │ Swap IR │ Blank ∷ Ld Ir-r │ Blank ∷ Ld IR-R │ Blank ∷ Blank ∷ across (Of Nop))  -- F
     ∷ []
 
 -- what the map has at an opcode

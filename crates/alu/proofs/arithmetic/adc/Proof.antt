@@ -6,12 +6,12 @@ use Rattle.alu.specs.Arithmetic.{adcOf}
 bit-requires : tie.Need-bit-requires
 bit-requires c κs = search needs
 
-sum-requires : tie.Need-sum-requires
-sum-requires c κs = search needs
+addition-requires : tie.Need-addition-requires
+addition-requires c κs = search needs
 
 returns : tie.Need-returns
 unfolding adcOf
-returns c = rw (c .sum .ensures, c .before .bit .ensures)
+returns c = rw (c .addition .ensures, c .before .bit .ensures)
 
 pub adc-spec : {M : Type 1} → statement M
-adc-spec = tie.close (tie.spec bit-requires sum-requires returns)
+adc-spec = tie.close (tie.spec bit-requires addition-requires returns)

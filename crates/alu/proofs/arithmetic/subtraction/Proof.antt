@@ -1,7 +1,7 @@
 use borrow.Author.Needs.{needs}
-use Rattle.alu.proofs.arithmetic.taken.Statement.{statement}
-use Rattle.alu.proofs.arithmetic.taken.Tie as tie
-use Rattle.alu.specs.Arithmetic.{takenOf}
+use Rattle.alu.proofs.arithmetic.subtraction.Statement.{statement}
+use Rattle.alu.proofs.arithmetic.subtraction.Tie as tie
+use Rattle.alu.specs.Arithmetic.{subtractionOf}
 use Rattle.alu.specs.FlagByte.{packed}
 
 difference-requires : tie.Need-difference-requires
@@ -29,11 +29,11 @@ pack-requires : tie.Need-pack-requires
 pack-requires c κs = search needs
 
 returns : tie.Need-returns
-unfolding takenOf packed
+unfolding subtractionOf packed
 returns c = rw (c .pack .ensures, c .before .difference-overflow .ensures .0, c .before .before .one-if3 .ensures .0, c .before .before .before .one-if2 .ensures .0, c .before .before .before .before .one-if .ensures .0, c .before .before .before .before .before .difference .ensures)
 
-pub taken-spec : {M : Type 1} → statement M
-taken-spec =
+pub subtraction-spec : {M : Type 1} → statement M
+subtraction-spec =
     tie.close
     (tie.spec
     difference-requires

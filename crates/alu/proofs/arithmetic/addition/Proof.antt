@@ -1,7 +1,7 @@
 use borrow.Author.Needs.{needs}
-use Rattle.alu.proofs.arithmetic.sum.Statement.{statement}
-use Rattle.alu.proofs.arithmetic.sum.Tie as tie
-use Rattle.alu.specs.Arithmetic.{sumOf}
+use Rattle.alu.proofs.arithmetic.addition.Statement.{statement}
+use Rattle.alu.proofs.arithmetic.addition.Tie as tie
+use Rattle.alu.specs.Arithmetic.{additionOf}
 use Rattle.alu.specs.FlagByte.{packed}
 
 add-wide : tie.Need-add-wide
@@ -32,11 +32,11 @@ pack-requires : tie.Need-pack-requires
 pack-requires c κs = search needs
 
 returns : tie.Need-returns
-unfolding sumOf packed
+unfolding additionOf packed
 returns c = rw (c .pack .ensures, c .before .sum-overflow .ensures .0, c .before .before .one-if .ensures .0)
 
-pub sum-spec : {M : Type 1} → statement M
-sum-spec =
+pub addition-spec : {M : Type 1} → statement M
+addition-spec =
     tie.close
     (tie.spec
     add-wide
