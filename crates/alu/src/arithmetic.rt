@@ -36,7 +36,7 @@ fn addition(a: u8, b: u8, c: u8) -> Outcome
     let v = sum_overflow(a / 128, b / 128, value / 128);
     let set = crate::pack(carry, z, value / 128, v, 0, half);
     let flags = Flags {
-        affected: 0xFC,
+        affected: Flags::CZSVDH,
         set,
     };
     Outcome { value, flags }
@@ -74,7 +74,7 @@ fn subtraction(a: u8, b: u8, c: u8) -> Outcome
     let v = difference_overflow(a / 128, b / 128, value / 128);
     let set = crate::pack(borrow, z, value / 128, v, 1, half);
     let flags = Flags {
-        affected: 0xFC,
+        affected: Flags::CZSVDH,
         set,
     };
     Outcome { value, flags }
@@ -101,7 +101,7 @@ pub fn cp(a: u8, b: u8) -> Flags
     let v = difference_overflow(a / 128, b / 128, r / 128);
     let set = crate::pack(borrow, z, r / 128, v, 0, 0);
     Flags {
-        affected: 0xF0,
+        affected: Flags::CZSV,
         set,
     }
 }
@@ -115,7 +115,7 @@ fn counted(z: u8, s: u8, v: u8) -> Flags
 {
     let set = crate::pack(0, z, s, v, 0, 0);
     Flags {
-        affected: 0x70,
+        affected: Flags::ZSV,
         set,
     }
 }

@@ -15,7 +15,7 @@ fn by(v: u8, add: u8, after: u8) -> Adjusted
     let z = crate::one_if(value == 0);
     let set = crate::pack(after, z, value / 128, 0, 0, 0);
     let flags = Flags {
-        affected: 0xE0,
+        affected: Flags::CZS,
         set,
     };
     let o = Outcome { value, flags };

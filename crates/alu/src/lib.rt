@@ -19,6 +19,21 @@ pub struct Flags {
     pub set: u8,
 }
 
+// The bits of FLAGS that an operation affects, by the flags' names.
+impl Flags {
+    pub const C: u8 = 0x80;
+
+    pub const ZS: u8 = 0x60;
+
+    pub const CZS: u8 = 0xE0;
+
+    pub const ZSV: u8 = 0x70;
+
+    pub const CZSV: u8 = 0xF0;
+
+    pub const CZSVDH: u8 = 0xFC;
+}
+
 // A byte to store, and the flags.
 pub struct Outcome {
     pub value: u8,
@@ -71,7 +86,7 @@ fn carry_to(c: u8) -> Flags
 {
     let set = pack(c, 0, 0, 0, 0, 0);
     Flags {
-        affected: 0x80,
+        affected: Flags::C,
         set,
     }
 }

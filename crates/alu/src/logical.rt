@@ -10,7 +10,7 @@ fn logic_flags(r: u8) -> Flags
     let z = crate::one_if(r == 0);
     let set = crate::pack(0, z, r / 128, 0, 0, 0);
     Flags {
-        affected: 0x70,
+        affected: Flags::ZSV,
         set,
     }
 }

@@ -14,7 +14,7 @@ fn rotate_flags(out: u8, a: u8, r: u8) -> Flags
     let v = crate::one_if(a / 128 != r / 128);
     let set = crate::pack(out, z, r / 128, v, 0, 0);
     Flags {
-        affected: 0xF0,
+        affected: Flags::CZSV,
         set,
     }
 }
@@ -58,7 +58,7 @@ pub fn sra(a: u8) -> Outcome
     let z = crate::one_if(value == 0);
     let set = crate::pack(a % 2, z, value / 128, 0, 0, 0);
     let flags = Flags {
-        affected: 0xF0,
+        affected: Flags::CZSV,
         set,
     };
     Outcome { value, flags }
@@ -71,7 +71,7 @@ pub fn swap(a: u8) -> Outcome
     let z = crate::one_if(value == 0);
     let set = crate::pack(0, z, value / 128, 0, 0, 0);
     let flags = Flags {
-        affected: 0x60,
+        affected: Flags::ZS,
         set,
     };
     Outcome { value, flags }

@@ -1,4 +1,5 @@
-// What the map has at an opcode, by the opcode's nibbles.
+// What the map has at an opcode, by the opcode's nibbles. A last range to 255 stands for the nibble's 15: ranges that cover the
+// byte need no `_` arm.
 use crate::Entry;
 use crate::Kind;
 use crate::One;
