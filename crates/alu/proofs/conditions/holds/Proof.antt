@@ -25,8 +25,10 @@ returns c = search needs
 returns-2 : tie.Need-returns-2
 returns-2 c =
     let cc = c .before .before .args .cc in
+    let f = c .before .before .args .f in
+    let below : c .low2 .result ≡ holdsOf (cc - 8) f = c .low2 .ensures in
     let e : cc - 8 + 8 ≡ cc = omega arith in
-    rw (c .low2 .ensures, opposite (cc - 8) (c .before .before .args .f) (omega arith) (omega arith), e)
+    rw (below, opposite (cc - 8) f (omega arith) (omega arith), e)
 
 pub holds-spec : {M : Type 1} → statement M
 holds-spec = tie.close (tie.spec low-requires low-requires-2 returns returns-2)

@@ -38,67 +38,67 @@ by-requires c κs = search needs
 
 returns : tie.Need-returns
 unfolding chain
-returns c = rw (c .by .ensures, rows (c .before .before), c .before .if1 .taken)
+returns c = simp (c .by .ensures, rows (c .before .before), c .before .if1 .taken)
 
 by-requires-2 : tie.Need-by-requires-2
 by-requires-2 c κs = search needs
 
 returns-2 : tie.Need-returns-2
 unfolding chain
-returns-2 c = rw (c .by2 .ensures, rows (c .before .before .before), c .before .before .if1 .left, c .before .if2 .taken)
+returns-2 c = simp (c .by2 .ensures, rows (c .before .before .before), c .before .before .if1 .left, c .before .if2 .taken)
 
 by-requires-3 : tie.Need-by-requires-3
 by-requires-3 c κs = search needs
 
 returns-3 : tie.Need-returns-3
 unfolding chain
-returns-3 c = rw (c .by3 .ensures, rows (c .before .before .before .before), c .before .before .before .if1 .left, c .before .before .if2 .left, c .before .if3 .taken)
+returns-3 c = simp (c .by3 .ensures, rows (c .before .before .before .before), c .before .before .before .if1 .left, c .before .before .if2 .left, c .before .if3 .taken)
 
 by-requires-4 : tie.Need-by-requires-4
 by-requires-4 c κs = search needs
 
 returns-4 : tie.Need-returns-4
 unfolding chain
-returns-4 c = rw (c .by4 .ensures, rows (c .before .before .before .before .before), c .before .before .before .before .if1 .left, c .before .before .before .if2 .left, c .before .before .if3 .left, c .before .if4 .taken)
+returns-4 c = simp (c .by4 .ensures, rows (c .before .before .before .before .before), c .before .before .before .before .if1 .left, c .before .before .before .if2 .left, c .before .before .if3 .left, c .before .if4 .taken)
 
 by-requires-5 : tie.Need-by-requires-5
 by-requires-5 c κs = search needs
 
 returns-5 : tie.Need-returns-5
 unfolding chain
-returns-5 c = rw (c .by5 .ensures, rows (c .before .before .before .before .before .before), c .before .before .before .before .before .if1 .left, c .before .before .before .before .if2 .left, c .before .before .before .if3 .left, c .before .before .if4 .left, c .before .if5 .taken)
+returns-5 c = simp (c .by5 .ensures, rows (c .before .before .before .before .before .before), c .before .before .before .before .before .if1 .left, c .before .before .before .before .if2 .left, c .before .before .before .if3 .left, c .before .before .if4 .left, c .before .if5 .taken)
 
 by-requires-6 : tie.Need-by-requires-6
 by-requires-6 c κs = search needs
 
 returns-6 : tie.Need-returns-6
 unfolding chain
-returns-6 c = rw (c .by6 .ensures, rows (c .before .before .before .before .before .before .before), c .before .before .before .before .before .before .if1 .left, c .before .before .before .before .before .if2 .left, c .before .before .before .before .if3 .left, c .before .before .before .if4 .left, c .before .before .if5 .left, c .before .if6 .taken)
+returns-6 c = simp (c .by6 .ensures, rows (c .before .before .before .before .before .before .before), c .before .before .before .before .before .before .if1 .left, c .before .before .before .before .before .if2 .left, c .before .before .before .before .if3 .left, c .before .before .before .if4 .left, c .before .before .if5 .left, c .before .if6 .taken)
 
 by-requires-7 : tie.Need-by-requires-7
 by-requires-7 c κs = search needs
 
 returns-7 : tie.Need-returns-7
 unfolding chain
-returns-7 c = rw (c .by7 .ensures, rows (c .before .before .before .before .before .before .before .before), c .before .before .before .before .before .before .before .if1 .left, c .before .before .before .before .before .before .if2 .left, c .before .before .before .before .before .if3 .left, c .before .before .before .before .if4 .left, c .before .before .before .if5 .left, c .before .before .if6 .left, c .before .if7 .taken)
+returns-7 c = simp (c .by7 .ensures, rows (c .before .before .before .before .before .before .before .before), c .before .before .before .before .before .before .before .if1 .left, c .before .before .before .before .before .before .if2 .left, c .before .before .before .before .before .if3 .left, c .before .before .before .before .if4 .left, c .before .before .before .if5 .left, c .before .before .if6 .left, c .before .if7 .taken)
 
 by-requires-8 : tie.Need-by-requires-8
 by-requires-8 c κs = search needs
 
 returns-8 : tie.Need-returns-8
 unfolding chain
-returns-8 c = rw (c .by8 .ensures, rows (c .before .before .before .before .before .before .before .before .before), c .before .before .before .before .before .before .before .before .if1 .left, c .before .before .before .before .before .before .before .if2 .left, c .before .before .before .before .before .before .if3 .left, c .before .before .before .before .before .if4 .left, c .before .before .before .before .if5 .left, c .before .before .before .if6 .left, c .before .before .if7 .left, c .before .if8 .taken)
+returns-8 c = simp (c .by8 .ensures, rows (c .before .before .before .before .before .before .before .before .before), c .before .before .before .before .before .before .before .before .if1 .left, c .before .before .before .before .before .before .before .if2 .left, c .before .before .before .before .before .before .if3 .left, c .before .before .before .before .before .if4 .left, c .before .before .before .before .if5 .left, c .before .before .before .if6 .left, c .before .before .if7 .left, c .before .if8 .taken)
 
 by-requires-9 : tie.Need-by-requires-9
 by-requires-9 c κs = search needs
 
 returns-9 : tie.Need-returns-9
 unfolding chain
-returns-9 c = rw (c .by9 .ensures, rows (c .before .before .before .before .before .before .before .before .before .before), c .before .before .before .before .before .before .before .before .before .if1 .left, c .before .before .before .before .before .before .before .before .if2 .left, c .before .before .before .before .before .before .before .if3 .left, c .before .before .before .before .before .before .if4 .left, c .before .before .before .before .before .if5 .left, c .before .before .before .before .if6 .left, c .before .before .before .if7 .left, c .before .before .if8 .left, c .before .if9 .taken)
+returns-9 c = simp (c .by9 .ensures, rows (c .before .before .before .before .before .before .before .before .before .before), c .before .before .before .before .before .before .before .before .before .if1 .left, c .before .before .before .before .before .before .before .before .if2 .left, c .before .before .before .before .before .before .before .if3 .left, c .before .before .before .before .before .before .if4 .left, c .before .before .before .before .before .if5 .left, c .before .before .before .before .if6 .left, c .before .before .before .if7 .left, c .before .before .if8 .left, c .before .if9 .taken)
 
 returns-10 : tie.Need-returns-10
 unfolding chain
-returns-10 c = rw (rows (c .before .before .before .before .before .before .before .before .before), c .before .before .before .before .before .before .before .before .if1 .left, c .before .before .before .before .before .before .before .if2 .left, c .before .before .before .before .before .before .if3 .left, c .before .before .before .before .before .if4 .left, c .before .before .before .before .if5 .left, c .before .before .before .if6 .left, c .before .before .if7 .left, c .before .if8 .left, c .if9 .left)
+returns-10 c = simp (rows (c .before .before .before .before .before .before .before .before .before), c .before .before .before .before .before .before .before .before .if1 .left, c .before .before .before .before .before .before .before .if2 .left, c .before .before .before .before .before .before .if3 .left, c .before .before .before .before .before .if4 .left, c .before .before .before .before .if5 .left, c .before .before .before .if6 .left, c .before .before .if7 .left, c .before .if8 .left, c .if9 .left)
 
 pub after-addition-spec : {M : Type 1} → statement M
 after-addition-spec =

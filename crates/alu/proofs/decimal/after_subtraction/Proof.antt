@@ -33,32 +33,32 @@ by-requires c κs = search needs
 
 returns : tie.Need-returns
 unfolding chain
-returns c = rw (c .by .ensures, rows (c .before .before), c .before .if1 .taken)
+returns c = simp (c .by .ensures, rows (c .before .before), c .before .if1 .taken)
 
 by-requires-2 : tie.Need-by-requires-2
 by-requires-2 c κs = search needs
 
 returns-2 : tie.Need-returns-2
 unfolding chain
-returns-2 c = rw (c .by2 .ensures, rows (c .before .before .before), c .before .before .if1 .left, c .before .if2 .taken)
+returns-2 c = simp (c .by2 .ensures, rows (c .before .before .before), c .before .before .if1 .left, c .before .if2 .taken)
 
 by-requires-3 : tie.Need-by-requires-3
 by-requires-3 c κs = search needs
 
 returns-3 : tie.Need-returns-3
 unfolding chain
-returns-3 c = rw (c .by3 .ensures, rows (c .before .before .before .before), c .before .before .before .if1 .left, c .before .before .if2 .left, c .before .if3 .taken)
+returns-3 c = simp (c .by3 .ensures, rows (c .before .before .before .before), c .before .before .before .if1 .left, c .before .before .if2 .left, c .before .if3 .taken)
 
 by-requires-4 : tie.Need-by-requires-4
 by-requires-4 c κs = search needs
 
 returns-4 : tie.Need-returns-4
 unfolding chain
-returns-4 c = rw (c .by4 .ensures, rows (c .before .before .before .before .before), c .before .before .before .before .if1 .left, c .before .before .before .if2 .left, c .before .before .if3 .left, c .before .if4 .taken)
+returns-4 c = simp (c .by4 .ensures, rows (c .before .before .before .before .before), c .before .before .before .before .if1 .left, c .before .before .before .if2 .left, c .before .before .if3 .left, c .before .if4 .taken)
 
 returns-5 : tie.Need-returns-5
 unfolding chain
-returns-5 c = rw (rows (c .before .before .before .before), c .before .before .before .if1 .left, c .before .before .if2 .left, c .before .if3 .left, c .if4 .left)
+returns-5 c = simp (rows (c .before .before .before .before), c .before .before .before .if1 .left, c .before .before .if2 .left, c .before .if3 .left, c .if4 .left)
 
 pub after-subtraction-spec : {M : Type 1} → statement M
 after-subtraction-spec =
