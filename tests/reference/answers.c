@@ -1,5 +1,5 @@
-/* The reference's answers, a checksum for each operation over its inputs, in the order and form of the program
-   crates/vectors. Its output is what crates/vectors/stdout has to be. */
+/* The reference's answers, a checksum for each question, in the order and form of the program crates/vectors. Its output is what
+   crates/vectors/stdout has to be. Only this file knows that program: it asks bytes.c, and answers nothing by itself. */
 #include <stdio.h>
 #include "bytes.h"
 
@@ -79,16 +79,18 @@ static uint32_t over_instructions(int encode)
     for (int op = 0; op < 256; op++)
         for (int a = 0; a < 256; a++)
             for (int b = 0; b < 256; b++) {
-                int length = ref_length(op);
-                int first = length >= 2 ? a : 0;
-                int second = length >= 3 ? b : 0;
-                uint32_t answer;
-                if (encode)
-                    answer = ref_defined(op) && a == first && b == second ? packed(length, op, a, b) : 8;
-                else
-                    answer = ref_defined(op) ? packed(length, op, first, second) : 5;
-                h = mixed(h, answer);
+                uint8_t x, y, z, length;
+                int refusal = (encode ? ref_encode : ref_decode)((uint8_t)op, (uint8_t)a, (uint8_t)b, &x, &y, &z, &length);
+                h = mixed(h, refusal ? (uint32_t)refusal : packed(length, x, y, z));
             }
+    return h;
+}
+
+static uint32_t over_lengths(void)
+{
+    uint32_t h = 0;
+    for (int op = 0; op < 256; op++)
+        h = mixed(h, (uint32_t)ref_length(op));
     return h;
 }
 
@@ -106,5 +108,6 @@ int main(void)
     line("cycles, second", over_cycles(0));
     line("decoding", over_instructions(0));
     line("encoding", over_instructions(1));
+    line("lengths", over_lengths());
     return 0;
 }

@@ -628,3 +628,52 @@ uint16_t ref_jump(uint16_t next, uint8_t displacement)
     }
     return (uint16_t)pc;
 }
+
+/* 01: refusal 5, opcode undefined; operand bytes it hasn't are zero. The
+   operand bytes stand in the order of chapter 5's boxes, which is the order of
+   the program bytes. */
+int ref_decode(uint8_t byte0, uint8_t byte1, uint8_t byte2, uint8_t *opcode,
+               uint8_t *first, uint8_t *second, uint8_t *length)
+{
+    int bytes;
+
+    if (!ref_defined(byte0)) {
+        return 5;
+    }
+    bytes = ref_length(byte0);
+    *opcode = byte0;
+    *first = 0;
+    *second = 0;
+    *length = (uint8_t)bytes;
+    if (bytes >= 2) {
+        *first = byte1;
+    }
+    if (bytes >= 3) {
+        *second = byte2;
+    }
+    return 0;
+}
+
+/* 01: refusal 8, none of the 231, or an operand byte that it hasn't and that
+   is not zero. Unused bytes are zero. */
+int ref_encode(uint8_t opcode, uint8_t first, uint8_t second, uint8_t *byte0,
+               uint8_t *byte1, uint8_t *byte2, uint8_t *length)
+{
+    int bytes;
+
+    if (!ref_defined(opcode)) {
+        return 8;
+    }
+    bytes = ref_length(opcode);
+    if (bytes == 1 && (first != 0 || second != 0)) {
+        return 8;
+    }
+    if (bytes == 2 && second != 0) {
+        return 8;
+    }
+    *byte0 = opcode;
+    *byte1 = first;
+    *byte2 = second;
+    *length = (uint8_t)bytes;
+    return 0;
+}

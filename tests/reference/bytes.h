@@ -41,4 +41,15 @@ int ref_cycles(int opcode, int first);
 /* The PC after a relative jump taken; next: address of the next instruction. */
 uint16_t ref_jump(uint16_t next, uint8_t displacement);
 
+/* The instruction that begins with these three program bytes. Answers 0 and
+   its opcode, its two operand bytes and its length, or the number of the
+   refusal (then nothing is written through the pointers). */
+int ref_decode(uint8_t byte0, uint8_t byte1, uint8_t byte2, uint8_t *opcode,
+               uint8_t *first, uint8_t *second, uint8_t *length);
+
+/* The bytes of an instruction. Answers 0 and its length and three bytes, or
+   the number of the refusal (then nothing is written). */
+int ref_encode(uint8_t opcode, uint8_t first, uint8_t second, uint8_t *byte0,
+               uint8_t *byte1, uint8_t *byte2, uint8_t *length);
+
 #endif

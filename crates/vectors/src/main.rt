@@ -1,4 +1,4 @@
-// The core's answers to every question about bytes, as a checksum for each operation over its inputs. What it writes has to be
+// The core's answers to questions about bytes, as a checksum for each question. What it writes has to be
 // what the independent program tests/reference writes, which shares nothing with the core.
 use alu::Adjusted;
 use alu::Flags;
@@ -140,6 +140,7 @@ fn asked(question: u8, i: u32) -> u32 {
         28 => cycles(false, i),
         29 => decoding(i),
         30 => encoding(i),
+        31 => opcodes::instruction::length_of((i % 256) as u8) as u32,
         _ => on_bytes(question, i),
     }
 }
@@ -199,4 +200,5 @@ fn main() {
     line(b"cycles, second", 28, 256);
     line(b"decoding", 29, TRIPLES);
     line(b"encoding", 30, TRIPLES);
+    line(b"lengths", 31, 256);
 }
