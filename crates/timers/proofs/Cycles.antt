@@ -1,0 +1,96 @@
+-- Cycles are ticks of the divider, and ticks of both timers are ticks of each. Nothing here looks into a tick or an end. Assumes nothing.
+use mathlib.Core.Path.{_≡_, refl, ap, sym, _∙_}
+use mathlib.Core.Bool.{false}
+use Prim.Native.Nat.{ℕ, zero, suc, _+_, _/_, _%_, _<_}
+use native.Mathlib.Decide.{decLt}
+use native.Mathlib.Omega.{arith}
+use lib.Dec.{eqb}
+use borrow.Author.Tests.{ne-eqb}
+use Rattle.timers.specs.Iter.{iter}
+use Rattle.timers.specs.Timer.{more, ticks}
+use Rattle.timers.specs.Clock.{both, cycle, cycles, begun, atDivider, endOf}
+use Rattle.timers.specs.declared.Source.{Source}
+use Rattle.timers.specs.declared.Source.the-variants.{Divider}
+use Rattle.timers.specs.declared.Setting.{Setting}
+use Rattle.timers.specs.declared.Moving.{Moving}
+use Rattle.timers.specs.declared.Spanned.{Spanned}
+use Rattle.timers.proofs.Iterate.{iter-zero, iter-suc, iter-both}
+use Rattle.timers.proofs.Division.{ticks-zero, ticks-suc}
+use Rattle.timers.proofs.Ends.{ends-swap}
+
+module _ (s : Setting) where
+  -- the ticks of both timers are the ticks of each, with what the ends did
+  abbrev pub apart : Source → Moving → ℕ → Spanned
+  apart by m k =
+      let a0 = ticks by (s .t0) k (m .t0) in
+      let a1 = ticks by (s .t1) k (m .t1) in
+      record {
+        now =
+            record {
+              divider = m .divider;
+              t0 = a0 .counting;
+              t1 = a1 .counting;
+              lines = iter (a1 .ends) (endOf (s .t1)) (iter (a0 .ends) (endOf (s .t0)) (m .lines));
+            };
+        ends0 = a0 .ends;
+        ends1 = a1 .ends;
+      }
+
+  apart-zero : (by : Source) (m : Moving) → begun m ≡ apart by m 0
+  apart-zero by m = rw (ticks-zero by (s .t0) (m .t0), ticks-zero by (s .t1) (m .t1), iter-zero (endOf (s .t1)), iter-zero (endOf (s .t0)))
+
+  apart-suc : (by : Source) (m : Moving) (k : ℕ) → both by s (apart by m k) ≡ apart by m (suc k)
+  unfolding both more
+  apart-suc by m k =
+      rw (ticks-suc by (s .t0) k (m .t0), ticks-suc by (s .t1) k (m .t1), iter-both (endOf (s .t0)) (endOf (s .t1)) (ends-swap (s .t0) (s .t1)))
+
+  pub ticks-apart : (by : Source) (m : Moving) (k : ℕ) → iter k (both by s) (begun m) ≡ apart by m k
+  ticks-apart by m zero = iter-zero (both by s) (begun m) ∙ apart-zero by m
+  ticks-apart by m (suc k) = iter-suc (both by s) k (begun m) ∙ ap (both by s) (ticks-apart by m k) ∙ apart-suc by m k
+
+  -- a cycle that only counts, and one that ticks
+  counts-on : (x : Spanned) (d e : ℕ) → e ≡ (d + 1) % 4 → 0 < e → cycle s (atDivider x d) ≡ atDivider x e
+  unfolding cycle
+  counts-on x d e h l =
+      let other : eqb e 0 ≡ false = ne-eqb e 0 (λ q. omega arith) in
+      rw (← h, other)
+
+  comes-round : (x : Spanned) (d : ℕ) → 0 ≡ (d + 1) % 4 → cycle s (atDivider x d) ≡ atDivider (both Divider s x) 0
+  unfolding cycle both
+  comes-round x d h = rw (← h)
+
+  same : (x : Spanned) (q q′ d d′ : ℕ) → q ≡ q′ → d ≡ d′ → atDivider (iter q (both Divider s) x) d ≡ atDivider (iter q′ (both Divider s) x) d′
+  same x q q′ d d′ hq hd = rw (hq, hd)
+
+  -- n cycles are as many ticks as the divider comes round
+  pub cycles-are-ticks : (x : Spanned) → x .now .divider < 4 → (n : ℕ)
+      → iter n (cycle s) x ≡ atDivider (iter ((x .now .divider + n) / 4) (both Divider s) x) ((x .now .divider + n) % 4)
+  cycles-are-ticks x h zero =
+      let d = x .now .divider in
+      iter-zero (cycle s) x
+      ∙ sym (ap (λ (y : Spanned). atDivider y d) (iter-zero (both Divider s) x))
+      ∙ same x 0 ((d + 0) / 4) d ((d + 0) % 4) (omega arith) (omega arith)
+  cycles-are-ticks x h (suc n) =
+      iter-suc (cycle s) n x ∙ ap (cycle s) (cycles-are-ticks x h n) ∙ go (decLt 0 ((x .now .divider + suc n) % 4))
+    where
+      go : Dec (0 < (x .now .divider + suc n) % 4)
+          → cycle s (atDivider (iter ((x .now .divider + n) / 4) (both Divider s) x) ((x .now .divider + n) % 4))
+          ≡ atDivider (iter ((x .now .divider + suc n) / 4) (both Divider s) x) ((x .now .divider + suc n) % 4)
+      go (yes l) =
+          let d = x .now .divider in
+          counts-on (iter ((d + n) / 4) (both Divider s) x) ((d + n) % 4) ((d + suc n) % 4) (omega arith) l
+          ∙ same x ((d + n) / 4) ((d + suc n) / 4) ((d + suc n) % 4) ((d + suc n) % 4) (omega arith) refl
+      go (no l) =
+          let d = x .now .divider in
+          comes-round (iter ((d + n) / 4) (both Divider s) x) ((d + n) % 4) (omega arith)
+          ∙ sym (ap (λ (y : Spanned). atDivider y 0) (iter-suc (both Divider s) ((d + n) / 4) x))
+          ∙ same x (suc ((d + n) / 4)) ((d + suc n) / 4) 0 ((d + suc n) % 4) (omega arith) (omega arith)
+
+  -- n cycles, timer by timer
+  pub cycles-apart : (m : Moving) → m .divider < 4 → (n k d : ℕ)
+      → k ≡ (m .divider + n) / 4 → d ≡ (m .divider + n) % 4 → cycles s n m ≡ atDivider (apart Divider m k) d
+  unfolding cycles
+  cycles-apart m h n k d hk hd =
+      rw (hk, hd)
+      (cycles-are-ticks (begun m) h n
+      ∙ ap (λ (x : Spanned). atDivider x ((m .divider + n) % 4)) (ticks-apart Divider m ((m .divider + n) / 4)))

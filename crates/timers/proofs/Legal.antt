@@ -1,0 +1,125 @@
+-- What the control registers say is legal, and cycles, edges and writes to TMR keep what is legal. Assumes nothing.
+use mathlib.Core.Path.{_≡_, refl, sym}
+use mathlib.Core.Bool.{Bool, true, false}
+use Prim.Native.Nat.{ℕ, _+_, _-_, _/_, _%_, _≤_, _<_}
+use native.Mathlib.Decide.{decLt}
+use native.Mathlib.Omega.{arith}
+use native.Mathlib.Nat.{le-refl}
+use lib.Dec.{eqb}
+use lib.Bits.{bitAnd}
+use borrow.Author.Tests.{lt-ltb, le-ltb, eqb-false}
+use Rattle.word.specs.Fields.{bitOf}
+use Rattle.word.proofs.Computed.{by-test, agree}
+use Rattle.timers.specs.Iter.{iter}
+use Rattle.timers.specs.Control.{orHighest, setupOf, settingOf, kept}
+use Rattle.timers.specs.Timer.{tick, moves, ticked, loaded, LegalSetup, LegalCounting}
+use Rattle.timers.specs.Clock.{both, cycle, cycles, begun, atDivider, endOf, edgeOf, written, LegalSetting, LegalMoving}
+use Rattle.timers.specs.declared.Control.{Control}
+use Rattle.timers.specs.declared.Source.{Source}
+use Rattle.timers.specs.declared.Source.the-variants.{Divider, Edges}
+use Rattle.timers.specs.declared.Setup.{Setup}
+use Rattle.timers.specs.declared.Counting.{Counting}
+use Rattle.timers.specs.declared.Ticked.{Ticked}
+use Rattle.timers.specs.declared.Lines.{Lines}
+use Rattle.timers.specs.declared.Setting.{Setting}
+use Rattle.timers.specs.declared.Moving.{Moving}
+use Rattle.timers.specs.declared.Spanned.{Spanned}
+use Rattle.timers.proofs.Iterate.{iter-keeps}
+use Rattle.timers.proofs.Latched.{latch-legal}
+
+-- a count whose field 0 stands for the highest is 1 to the highest
+highest-low : (top field : ℕ) → 0 < top → 0 < orHighest top field
+unfolding orHighest
+highest-low top field h = by-test (λ (x : ℕ). 0 < x) (eqb field 0) (λ e. h) (λ e. let d : field ≡ 0 → ⊥ = eqb-false field 0 e in omega arith)
+
+highest-high : (top field : ℕ) → field ≤ top → orHighest top field ≤ top
+unfolding orHighest
+highest-high top field h = by-test (λ (x : ℕ). x ≤ top) (eqb field 0) (λ e. le-refl top) (λ e. h)
+
+setup-legal : (pre start request : ℕ) (source : Source) (drives : Bool) → pre < 256 → start < 256 → request < 6
+    → LegalSetup (setupOf pre start source request drives)
+unfolding setupOf
+setup-legal pre start request source drives hp hs hr =
+    record {
+      p-low = highest-low 64 (pre / 4) (omega arith);
+      p-high = highest-high 64 (pre / 4) (omega arith);
+      n-low = highest-low 256 start (omega arith);
+      n-high = highest-high 256 start (omega arith);
+      request-high = hr;
+    }
+
+pub setting-legal : (c : Control) → c .pre0 < 256 → c .t0 < 256 → c .pre1 < 256 → c .t1 < 256 → LegalSetting (settingOf c)
+unfolding settingOf
+setting-legal c p0 n0 p1 n1 =
+    record {
+      setup0 = setup-legal (c .pre0) (c .t0) 4 _ _ p0 n0 (omega arith);
+      setup1 = setup-legal (c .pre1) (c .t1) 5 _ _ p1 n1 (omega arith);
+    }
+
+module _ (s : Setup) (ls : LegalSetup s) where
+  tick-legal : (c : Counting) → LegalCounting c → LegalCounting (tick s c .counting)
+  unfolding tick
+  tick-legal c lc = go (decLt 1 (c .timer .prescaler)) (decLt 1 (c .timer .counter)) (s .repeats) refl
+    where
+      go : Dec (1 < c .timer .prescaler) → Dec (1 < c .timer .counter) → (b : Bool) → s .repeats ≡ b → LegalCounting (tick s c .counting)
+      go (yes h) d b e = rw (lt-ltb 1 (c .timer .prescaler) h) (omega arith)
+      go (no h) (yes g) b e = rw (le-ltb 1 (c .timer .prescaler) (omega arith), lt-ltb 1 (c .timer .counter) g) (omega arith)
+      go (no h) (no g) true e = rw (le-ltb 1 (c .timer .prescaler) (omega arith), le-ltb 1 (c .timer .counter) (omega arith), e) (omega arith)
+      go (no h) (no g) false e = rw (le-ltb 1 (c .timer .prescaler) (omega arith), le-ltb 1 (c .timer .counter) (omega arith), e) (omega arith)
+
+  ticked-legal : (by : Source) (c : Counting) → LegalCounting c → LegalCounting (ticked by s c .counting)
+  unfolding ticked
+  ticked-legal by c lc = by-test (λ (a : Ticked). LegalCounting (a .counting)) (moves by s c) (λ e. tick-legal c lc) (λ e. lc)
+
+  end-legal : (l : Lines) → l .irq < 64 → endOf s l .irq < 64
+  unfolding endOf
+  end-legal l h = latch-legal (s .request) (l .irq) (ls .request-high) h
+
+module _ (s : Setting) (ls : LegalSetting s) where
+  both-legal : (by : Source) (x : Spanned) → LegalMoving (x .now) → LegalMoving (both by s x .now)
+  unfolding both
+  both-legal by x l =
+      record {
+        divider-high = l .divider-high;
+        counting0 = ticked-legal (s .t0) (ls .setup0) by (x .now .t0) (l .counting0);
+        counting1 = ticked-legal (s .t1) (ls .setup1) by (x .now .t1) (l .counting1);
+        irq-high =
+            iter-keeps (endOf (s .t1)) (λ (y : Lines). y .irq < 64) (end-legal (s .t1) (ls .setup1)) (ticked by (s .t1) (x .now .t1) .ends) _
+            (iter-keeps (endOf (s .t0)) (λ (y : Lines). y .irq < 64) (end-legal (s .t0) (ls .setup0)) (ticked by (s .t0) (x .now .t0) .ends) (x .now .lines) (l .irq-high));
+      }
+
+  cycle-legal : (x : Spanned) → LegalMoving (x .now) → LegalMoving (cycle s x .now)
+  unfolding cycle
+  cycle-legal x l =
+      let d = (x .now .divider + 1) % 4 in
+      let counted : LegalMoving (atDivider x d .now) =
+          record { divider-high = omega arith; counting0 = l .counting0; counting1 = l .counting1; irq-high = l .irq-high } in
+      by-test (λ (y : Spanned). LegalMoving (y .now)) (eqb d 0) (λ e. both-legal Divider (atDivider x d) counted) (λ e. counted)
+
+  pub cycles-legal : (n : ℕ) (m : Moving) → LegalMoving m → LegalMoving (cycles s n m .now)
+  unfolding cycles
+  cycles-legal n m l = iter-keeps (cycle s) (λ (x : Spanned). LegalMoving (x .now)) cycle-legal n (begun m) l
+
+  pub edge-legal : (m : Moving) → LegalMoving m → LegalMoving (edgeOf s m .now)
+  unfolding edgeOf
+  edge-legal m l = both-legal Edges (begun m) l
+
+loaded-legal : (s : Setup) (load enable : Bool) (c : Counting) → LegalSetup s → LegalCounting c → LegalCounting (loaded s load enable c)
+unfolding loaded
+loaded-legal s true enable c ls lc = omega (arith, ls .p-low, ls .p-high, ls .n-low, ls .n-high)
+loaded-legal s false enable c ls lc = omega (arith, lc .prescaler-low, lc .prescaler-high, lc .counter-low, lc .counter-high)
+
+pub written-legal : (c : Control) (m : Moving) → LegalSetting (settingOf c) → LegalMoving m → LegalMoving (written c m)
+unfolding written
+written-legal c m ls l =
+    record {
+      divider-high = l .divider-high;
+      counting0 = loaded-legal (settingOf c .t0) _ _ (m .t0) (ls .setup0) (l .counting0);
+      counting1 = loaded-legal (settingOf c .t1) _ _ (m .t1) (ls .setup1) (l .counting1);
+      irq-high = l .irq-high;
+    }
+
+-- TMR's bits 0 and 2 stay clear
+pub kept-legal : (v : ℕ) → v < 256 → (bitOf 0 (kept v) ≡ 0) × (bitOf 2 (kept v) ≡ 0)
+unfolding kept
+kept-legal v h = (agree (λ x. bitOf 0 (bitAnd x 0xFA)) (λ x. 0) 256 refl v h, agree (λ x. bitOf 2 (bitAnd x 0xFA)) (λ x. 0) 256 refl v h)

@@ -1,0 +1,122 @@
+-- The divider and both timers, one cycle at a time (01 "The timers", "One step"). Assumes nothing.
+use mathlib.Core.Path.{_≡_}
+use mathlib.Core.Bool.{Bool, true, not, _&&_, _||_}
+use Prim.Native.Nat.{ℕ, _+_, _-_, _*_, _%_, _≤_, _<_}
+use lib.Dec.{eqb}
+use Rattle.word.specs.Choose.{pick}
+use Rattle.timers.specs.Iter.{iter}
+use Rattle.timers.specs.Requests.{latch}
+use Rattle.timers.specs.Control.{load0, enable0, load1, enable1, settingOf}
+use Rattle.timers.specs.Timer.{ticked, loaded, LegalSetup, LegalCounting}
+use Rattle.timers.specs.declared.Control.{Control}
+use Rattle.timers.specs.declared.Source.{Source}
+use Rattle.timers.specs.declared.Source.the-variants.{Divider, Edges}
+use Rattle.timers.specs.declared.Setup.{Setup}
+use Rattle.timers.specs.declared.Setting.{Setting}
+use Rattle.timers.specs.declared.Counting.{Counting}
+use Rattle.timers.specs.declared.Lines.{Lines}
+use Rattle.timers.specs.declared.Moving.{Moving}
+use Rattle.timers.specs.declared.Spanned.{Spanned}
+
+-- T_OUT the other way round, where the timer drives it
+abbrev pub flips : Bool → Bool → Bool
+flips drives tout = pick drives (not tout) tout
+
+-- what an end of a timer does: it latches the timer's request, and flips T_OUT where the timer is chosen
+unfoldable pub endOf : Setup → Lines → Lines
+endOf s l = record { irq = latch (s .request) (l .irq); tout = flips (s .drives) (l .tout) }
+
+-- one tick from there for both timers; each that ends does what its end does
+unfoldable pub both : Source → Setting → Spanned → Spanned
+both by s x =
+    let a0 = ticked by (s .t0) (x .now .t0) in
+    let a1 = ticked by (s .t1) (x .now .t1) in
+    record {
+      now =
+          record {
+            divider = x .now .divider;
+            t0 = a0 .counting;
+            t1 = a1 .counting;
+            lines = iter (a1 .ends) (endOf (s .t1)) (iter (a0 .ends) (endOf (s .t0)) (x .now .lines));
+          };
+      ends0 = x .ends0 + a0 .ends;
+      ends1 = x .ends1 + a1 .ends;
+    }
+
+abbrev pub atDivider : Spanned → ℕ → Spanned
+atDivider x d =
+    record { now = record { divider = d; t0 = x .now .t0; t1 = x .now .t1; lines = x .now .lines }; ends0 = x .ends0; ends1 = x .ends1 }
+
+-- one cycle: "The divider counts cycles modulo 4; each return to 0 is one tick."
+unfoldable pub cycle : Setting → Spanned → Spanned
+cycle s x =
+    let d = (x .now .divider + 1) % 4 in
+    pick (eqb d 0) (both Divider s (atDivider x d)) (atDivider x d)
+
+-- no ends yet
+abbrev pub begun : Moving → Spanned
+begun m = record { now = m; ends0 = 0; ends1 = 0 }
+
+-- n cycles, one by one, with each timer's ends counted
+unfoldable pub cycles : Setting → ℕ → Moving → Spanned
+cycles s n m = iter n (cycle s) (begun m)
+
+-- a falling edge of P31
+unfoldable pub edgeOf : Setting → Moving → Spanned
+edgeOf s m = both Edges s (begun m)
+
+-- T_OUT after a write to TMR: it "sets T_OUT to 1 if the byte written chooses that timer", where it loads the timer
+unfoldable pub setAtLoad : Setup → Bool → Bool → Bool
+setAtLoad s load tout = (load && s .drives) || tout
+
+-- a write to TMR, c .tmr being the byte written. "The divider isn't touched."
+unfoldable pub written : Control → Moving → Moving
+written c m =
+    let s = settingOf c in
+    let v = c .tmr in
+    record {
+      divider = m .divider;
+      t0 = loaded (s .t0) (load0 v) (enable0 v) (m .t0);
+      t1 = loaded (s .t1) (load1 v) (enable1 v) (m .t1);
+      lines = record { irq = m .lines .irq; tout = setAtLoad (s .t1) (load1 v) (setAtLoad (s .t0) (load0 v) (m .lines .tout)) };
+    }
+
+-- Legal: "divider 0 to 3", the counts in range, IRQ's bits 6 and 7 zero
+pub record LegalSetting (s : Setting) : Type 0 where
+  pub setup0 : LegalSetup (s .t0)
+  pub setup1 : LegalSetup (s .t1)
+
+pub record LegalMoving (m : Moving) : Type 0 where
+  pub divider-high : m .divider < 4
+  pub counting0 : LegalCounting (m .t0)
+  pub counting1 : LegalCounting (m .t1)
+  pub irq-high : m .lines .irq < 64
+
+-- The closed formula speaks of either timer.
+pub data Which : Type 0 where
+  T0 : Which
+  T1 : Which
+
+abbrev pub setupFor : Which → Setting → Setup
+setupFor T0 s = s .t0
+setupFor T1 s = s .t1
+
+abbrev pub countingFor : Which → Moving → Counting
+countingFor T0 m = m .t0
+countingFor T1 m = m .t1
+
+abbrev pub endsFor : Which → Spanned → ℕ
+endsFor T0 x = x .ends0
+endsFor T1 x = x .ends1
+
+-- "Cycles already gone: divider + 4 x ((P - prescaler) + P x (N - counter))."
+abbrev pub gone : ℕ → Setup → Counting → ℕ
+gone divider s c = divider + 4 * ((s .p - c .timer .prescaler) + s .p * (s .n - c .timer .counter))
+
+-- clocked by the divider (internally, or gated and P31 held high), enabled, repeating, and its counts within its start values
+pub record Steady (s : Setup) (c : Counting) : Type 0 where
+  pub clocked : s .source ≡ Divider
+  pub enabled : c .enabled ≡ true
+  pub repeating : s .repeats ≡ true
+  pub prescaler-within : c .timer .prescaler ≤ s .p
+  pub counter-within : c .timer .counter ≤ s .n

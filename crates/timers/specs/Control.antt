@@ -1,0 +1,75 @@
+-- What the control registers F1 to F5 and P31 tell the timers (01 "The timers"; 002, R241 to R245). Assumes nothing.
+use mathlib.Core.Bool.{Bool}
+use Prim.Native.Nat.{ℕ, _/_, _%_}
+use lib.Dec.{eqb}
+use lib.Bits.{bitAnd}
+use Rattle.word.specs.Choose.{pick}
+use Rattle.word.specs.Fields.{bitOf}
+use Rattle.timers.specs.declared.Control.{Control}
+use Rattle.timers.specs.declared.Source.{Source}
+use Rattle.timers.specs.declared.Source.the-variants.{Divider, Edges, Nowhere}
+use Rattle.timers.specs.declared.Setup.{Setup}
+use Rattle.timers.specs.declared.Setting.{Setting}
+
+-- bit n of v is set
+abbrev pub isSet : ℕ → ℕ → Bool
+isSet n v = eqb (bitOf n v) 1
+
+-- a count whose field 0 stands for the highest: "Prescaler P is 1 to 64 (field 0 is 64), count N is 1 to 256 (byte 0 is 256)"
+unfoldable pub orHighest : ℕ → ℕ → ℕ
+orHighest top field = pick (eqb field 0) top field
+
+-- P is in bits 7 to 2 of PRE0 or PRE1; bit 0 set is modulo-N, which is repeating, and clear is single-pass
+unfoldable pub setupOf : ℕ → ℕ → Source → ℕ → Bool → Setup
+setupOf pre start source request drives =
+    record {
+      p = orHighest 64 (pre / 4);
+      n = orHighest 256 start;
+      repeats = isSet 0 pre;
+      source = source;
+      request = request;
+      drives = drives;
+    }
+
+-- TMR's bits 0 to 3: load T0, enable T0 count, load T1, enable T1 count
+abbrev pub load0 : ℕ → Bool
+load0 tmr = isSet 0 tmr
+
+abbrev pub enable0 : ℕ → Bool
+enable0 tmr = isSet 1 tmr
+
+abbrev pub load1 : ℕ → Bool
+load1 tmr = isSet 2 tmr
+
+abbrev pub enable1 : ℕ → Bool
+enable1 tmr = isSet 3 tmr
+
+-- TMR bits 7 and 6, the T_OUT modes, and bits 5 and 4, the T_IN modes
+abbrev pub toutMode : ℕ → ℕ
+toutMode tmr = tmr / 64
+
+abbrev pub tinMode : ℕ → ℕ
+tinMode tmr = tmr / 16 % 4
+
+-- "ticks while P31 is high"
+unfoldable pub gated : ℕ → Source
+gated port3 = pick (isSet 1 port3) Divider Nowhere
+
+-- "T1 with PRE1 bit 1 set ticks internally; clear, TMR bits 5 and 4 choose: 00 falling edges of P31, 01 ticks while P31 is high, 10
+-- and 11 no ticks yet."
+unfoldable pub sourceOf1 : ℕ → ℕ → ℕ → Source
+sourceOf1 pre1 tmr port3 =
+    pick (isSet 1 pre1) Divider (pick (eqb (tinMode tmr) 0) Edges (pick (eqb (tinMode tmr) 1) (gated port3) Nowhere))
+
+-- "T0's end latches request 4, T1's request 5. The end of the timer chosen by TMR bits 7 and 6 (01 T0, 10 T1, else none) flips T_OUT."
+-- T0 "is driven by the internal clock only" (002).
+unfoldable pub settingOf : Control → Setting
+settingOf c =
+    record {
+      t0 = setupOf (c .pre0) (c .t0) Divider 4 (eqb (toutMode (c .tmr)) 1);
+      t1 = setupOf (c .pre1) (c .t1) (sourceOf1 (c .pre1) (c .tmr) (c .port3)) 5 (eqb (toutMode (c .tmr)) 2);
+    }
+
+-- what a byte written to TMR leaves there: load bits 0 and 2 read back 0
+unfoldable pub kept : ℕ → ℕ
+kept v = bitAnd v 0xFA

@@ -1,0 +1,5 @@
+pub mod Iter
+pub mod Requests
+pub mod Control
+pub mod Timer
+pub mod Clock

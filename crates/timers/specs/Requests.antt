@@ -1,0 +1,7 @@
+-- The request register IRQ: bit n is request n. Assumes nothing.
+use Prim.Native.Nat.{ℕ, _^_}
+use lib.Bits.{bitOr}
+
+-- request n is latched. "Requests are latched at all times from reset (HOUSE)": whatever stands in IRQ or in the masks.
+unfoldable pub latch : ℕ → ℕ → ℕ
+latch n irq = bitOr irq (2 ^ n)

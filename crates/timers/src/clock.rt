@@ -1,0 +1,140 @@
+// The divider and both timers: any number of cycles at once, an edge of P31, a write to TMR.
+use crate::Control;
+use crate::Lines;
+use crate::Moving;
+use crate::Setting;
+use crate::Setup;
+use crate::Source;
+use crate::Spanned;
+ghost use mathlib.Core.Path.{_≡_};
+ghost use Prim.Native.Nat.{_<_};
+ghost use Rattle.timers.specs.Iter.{iter};
+ghost use Rattle.timers.specs.Requests.{latch};
+ghost use Rattle.timers.specs.Control.{settingOf};
+ghost use Rattle.timers.specs.Timer.{LegalSetup};
+ghost use Rattle.timers.specs.Clock.{flips, endOf, both, begun, cycles, edgeOf, setAtLoad, written, LegalSetting, LegalMoving};
+
+// IRQ after e ends that latch request n.
+fn raised(n: u8, irq: u8, e: u32) -> u8
+    requires { ⌜ n < 6 ⌝ }
+    ensures { λ r. ⌜ r ≡ iter e (latch n) irq ⌝ }
+{
+    if 0 < e { crate::requests::latch(n, irq) } else { irq }
+}
+
+// The T_OUT level after e ends of a timer that drives it, or doesn't.
+fn level(drives: bool, tout: bool, e: u32) -> bool
+    ensures { λ r. ⌜ r ≡ iter e (flips drives) tout ⌝ }
+{
+    if !drives {
+        return tout;
+    }
+    if e % 2 == 1 { !tout } else { tout }
+}
+
+// What e ends of a timer do.
+fn ended(s: Setup, l: Lines, e: u32) -> Lines
+    requires { ⌜ LegalSetup s ⌝ }
+    ensures { λ r. ⌜ r ≡ iter e (endOf s) l ⌝ }
+{
+    let irq = raised(s.request, l.irq, e);
+    let tout = level(s.drives, l.tout, e);
+    Lines { irq, tout }
+}
+
+// k ticks from there, for both timers.
+fn tick_both(by: Source, s: Setting, m: Moving, k: u32) -> Spanned
+    requires { ⌜ LegalSetting s ⌝ }
+    requires { ⌜ LegalMoving m ⌝ }
+    ensures { λ r. ⌜ r ≡ iter k (both by s) (begun m) ⌝ }
+{
+    let divider = m.divider;
+    let s0 = s.t0;
+    let s1 = s.t1;
+    let c0 = m.t0;
+    let c1 = m.t1;
+    let lines = m.lines;
+    let a0 = crate::ticks::advance(by, s0, c0, k);
+    let a1 = crate::ticks::advance(by, s1, c1, k);
+    let ends0 = a0.ends;
+    let ends1 = a1.ends;
+    let first = ended(s0, lines, ends0);
+    let second = ended(s1, first, ends1);
+    let t0 = a0.counting;
+    let t1 = a1.counting;
+    let now = Moving {
+        divider,
+        t0,
+        t1,
+        lines: second,
+    };
+    Spanned { now, ends0, ends1 }
+}
+
+// n cycles with no register written and the pins held: the long move. It has no loop and no recursion, and calls nothing
+// that has.
+pub fn span(c: Control, m: Moving, n: u32) -> Spanned
+    requires { ⌜ LegalMoving m ⌝ }
+    ensures { λ r. ⌜ r ≡ cycles (settingOf c) n m ⌝ }
+{
+    let divider = m.divider;
+    let sum = divider + n % 4;
+    let k = n / 4 + sum / 4;
+    let s = crate::registers::setting(c);
+    let mut from = m;
+    from.divider = sum % 4;
+    tick_both(Source::Divider, s, from, k)
+}
+
+// A falling edge of P31.
+pub fn edge(c: Control, m: Moving) -> Spanned
+    requires { ⌜ LegalMoving m ⌝ }
+    ensures { λ r. ⌜ r ≡ edgeOf (settingOf c) m ⌝ }
+{
+    let s = crate::registers::setting(c);
+    tick_both(Source::Edges, s, m, 1)
+}
+
+// The T_OUT level after a write that loads the timer, or doesn't.
+fn set_at_load(s: Setup, load: bool, tout: bool) -> bool
+    ensures { λ r. ⌜ r ≡ setAtLoad s load tout ⌝ }
+{
+    let drives = s.drives;
+    if load {
+        if drives { true } else { tout }
+    } else {
+        tout
+    }
+}
+
+// What a write to TMR does: c.tmr is the byte written. `kept` says what TMR then holds.
+pub fn write_tmr(c: Control, m: Moving) -> Moving
+    ensures { λ r. ⌜ r ≡ written c m ⌝ }
+{
+    let v = c.tmr;
+    let divider = m.divider;
+    let lines = m.lines;
+    let c0 = m.t0;
+    let c1 = m.t1;
+    let s = crate::registers::setting(c);
+    let s0 = s.t0;
+    let s1 = s.t1;
+    let load0 = crate::registers::is_set(0, v);
+    let enable0 = crate::registers::is_set(1, v);
+    let load1 = crate::registers::is_set(2, v);
+    let enable1 = crate::registers::is_set(3, v);
+    let t0 = crate::ticks::loaded(s0, load0, enable0, c0);
+    let t1 = crate::ticks::loaded(s1, load1, enable1, c1);
+    let first = set_at_load(s0, load0, lines.tout);
+    let second = set_at_load(s1, load1, first);
+    let after = Lines {
+        irq: lines.irq,
+        tout: second,
+    };
+    Moving {
+        divider,
+        t0,
+        t1,
+        lines: after,
+    }
+}

@@ -1,0 +1,78 @@
+// The divider and the two timers (01 "The timers"; 004 chapter 11). The definition goes by single cycles; the code moves any
+// number of cycles by division. What the cycles read (`Control`, `Setting`) stands apart from what they move (`Moving`).
+pub mod clock;
+pub mod registers;
+pub mod requests;
+mod ticks;
+
+// All that the timers read: the control registers F1 to F5 in address order, and the pins of Port 3.
+pub struct Control {
+    pub tmr: u8,
+    pub t1: u8,
+    pub pre1: u8,
+    pub t0: u8,
+    pub pre0: u8,
+    pub port3: u8,
+}
+
+// Where a timer's ticks come from: the divider, falling edges of P31, or nowhere.
+pub enum Source {
+    Divider,
+    Edges,
+    Nowhere,
+}
+
+// What a timer's ticks read: start values P and N, whether it repeats, where the ticks come from, which request its end
+// latches, and whether its end flips T_OUT.
+pub struct Setup {
+    pub p: u32,
+    pub n: u32,
+    pub repeats: bool,
+    pub source: Source,
+    pub request: u8,
+    pub drives: bool,
+}
+
+pub struct Setting {
+    pub t0: Setup,
+    pub t1: Setup,
+}
+
+// A count in progress: the prescaler 1 to 64, the counter 1 to 256.
+pub struct Timer {
+    pub prescaler: u32,
+    pub counter: u32,
+}
+
+// The same with the timer's enable bit.
+pub struct Counting {
+    pub timer: Timer,
+    pub enabled: bool,
+}
+
+// A timer after some ticks, and how many of them ended its count.
+pub struct Ticked {
+    pub counting: Counting,
+    pub ends: u32,
+}
+
+// What the ends touch: IRQ, and the T_OUT level.
+pub struct Lines {
+    pub irq: u8,
+    pub tout: bool,
+}
+
+// All that cycles move.
+pub struct Moving {
+    pub divider: u32,
+    pub t0: Counting,
+    pub t1: Counting,
+    pub lines: Lines,
+}
+
+// The same after some cycles, with each timer's ends.
+pub struct Spanned {
+    pub now: Moving,
+    pub ends0: u32,
+    pub ends1: u32,
+}
