@@ -2,10 +2,7 @@
    and Z8611, written from the papers alone: 01-scope.md (house rules), the 1983
    manual (source document 004, chapter 11) and the control-register bits of
    002. Where they differ, 01 decides, then 004, then 002. It is stated for
-   legal values only, as given beside each field.
-
-   bytes.h declares another function named ref_timer_cycles, so one program can't
-   have both headers in one file, nor both models linked together. */
+   legal values only, as given beside each field. */
 #ifndef REFERENCE_TIMERS_H
 #define REFERENCE_TIMERS_H
 

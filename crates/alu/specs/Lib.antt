@@ -4,4 +4,3 @@ pub mod Logical
 pub mod Rotate
 pub mod Decimal
 pub mod Conditions
-pub mod Examples

@@ -1,4 +1,4 @@
-// The core's answers to questions about bytes, as a checksum for each question. What it writes has to be
+// The core's answers to questions about bytes and about the timers, as a checksum for each question. What it writes has to be
 // what the independent program tests/reference writes, which shares nothing with the core.
 use alu::Adjusted;
 use alu::Flags;
@@ -7,6 +7,8 @@ use alu::WordOutcome;
 use libc::STDOUT_FILENO;
 use opcodes::Decoded;
 use opcodes::Encoded;
+
+mod timing;
 
 fn mixed(h: u32, x: u32) -> u32 {
     ((h as u64 * 31 + x as u64) % 4294967291) as u32
@@ -140,6 +142,10 @@ fn asked(question: u8, i: u32) -> u32 {
         28 => cycles(false, i),
         29 => decoding(i),
         30 => encoding(i),
+        32 => timing::spanned(i, 4096),
+        33 => timing::spanned(i, 1048576),
+        34 => timing::edged(i),
+        35 => timing::written(i),
         31 => opcodes::instruction::length_of((i % 256) as u8) as u32,
         _ => on_bytes(question, i),
     }
@@ -167,6 +173,9 @@ const BYTES: u32 = 1048576;
 
 // All triples of bytes.
 const TRIPLES: u32 = 16777216;
+
+// States drawn for a question about the timers.
+const DRAWN: u32 = 262144;
 
 fn main() {
     line(b"ADD", 0, BYTES);
@@ -201,4 +210,8 @@ fn main() {
     line(b"decoding", 29, TRIPLES);
     line(b"encoding", 30, TRIPLES);
     line(b"lengths", 31, 256);
+    line(b"spans", 32, DRAWN);
+    line(b"long spans", 33, 1024);
+    line(b"edges", 34, DRAWN);
+    line(b"writes to TMR", 35, DRAWN);
 }

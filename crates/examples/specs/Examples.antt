@@ -1,0 +1,74 @@
+-- 01's proved examples, one list: each is a test on the definitions. Assumes nothing.
+use Prim.Native.Nat.{ℕ}
+use mathlib.Core.Bool.{Bool, true, false, _&&_}
+use mathlib.Core.List.{List, [], _∷_}
+use lib.Dec.{eqb}
+use Rattle.word.specs.Words.{dispOf, movedBy}
+use Rattle.alu.specs.declared.Outcome.{Outcome}
+use Rattle.alu.specs.declared.Adjusted.{Adjusted}
+use Rattle.alu.specs.declared.Adjusted.the-variants.{By, NoRow}
+use Rattle.alu.specs.FlagByte.{laid}
+use Rattle.alu.specs.Arithmetic.{addOf, subOf, incOf, decwOf}
+use Rattle.alu.specs.Logical.{andOf}
+use Rattle.alu.specs.Rotate.{rlOf, sraOf}
+use Rattle.alu.specs.Decimal.{daOf}
+use Rattle.timers.specs.Control.{settingOf}
+use Rattle.timers.specs.Clock.{written, cycles}
+use Rattle.timers.specs.declared.Control.{Control}
+use Rattle.timers.specs.declared.Counting.{Counting}
+use Rattle.timers.specs.declared.Moving.{Moving}
+
+-- the outcome stores this value, and makes of the FLAGS byte f this FLAGS byte
+abbrev pub after : Outcome → ℕ → ℕ → ℕ → Bool
+after o f value flags = eqb (o .value) value && eqb (laid f (o .flags)) flags
+
+-- the same of DA, which has a row for it
+abbrev pub adjusts : Adjusted → ℕ → ℕ → ℕ → Bool
+adjusts (By o) f value flags = after o f value flags
+adjusts NoRow f value flags = false
+
+-- a timer as after a reset, and both of them at divider 0
+abbrev pub resting : Counting
+resting = record { timer = record { prescaler = 64; counter = 256 }; enabled = false }
+
+abbrev pub atZero : Moving
+atZero = record { divider = 0; t0 = resting; t1 = resting; lines = record { irq = 0; tout = true } }
+
+-- these bytes in PRE0 and T0, and 03 written to TMR: T0 loaded and enabled
+abbrev pub loading : ℕ → ℕ → Control
+loading pre0 t0 = record { tmr = 0x03; t1 = 0; pre1 = 0; t0 = t0; pre0 = pre0; port3 = 0xFF }
+
+-- T0's ends in n cycles after that
+abbrev pub endsIn : ℕ → ℕ → ℕ → ℕ
+endsIn pre0 t0 n = cycles (settingOf (loading pre0 t0)) n (written (loading pre0 t0) atZero) .ends0
+
+-- Of the FLAGS byte before (the second argument of `after` and `adjusts`), each flag that 01 gives is the opposite of what it
+-- becomes. PRE0 0D is P 3, repeating; 01 is P 64, repeating; T0 00 is N 256.
+unfoldable pub examples : List Bool
+examples =
+    -- 44 + 11 = 55, flags C Z S V D H clear
+    after (addOf 0x44 0x11) 0xFC 0x55 0x00
+    -- 7B AND C3 = 43
+    ∷ after (andOf 0xC3 0x7B) 0x70 0x43 0x00
+    -- 00 - 01 = FF with C, S, D, H set and Z, V clear
+    ∷ after (subOf 0x00 0x01) 0x50 0xFF 0xAC
+    -- INC 7F = 80 with S, V set
+    ∷ after (incOf 0x7F) 0x40 0x80 0x30
+    -- SRA 81 = C0 with C, S set
+    ∷ after (sraOf 0x81) 0x50 0xC0 0xA0
+    -- RL 40 = 80 with S, V set and C clear
+    ∷ after (rlOf 0x40) 0xC0 0x80 0x30
+    -- DA of 3C (C, D, H clear) = 42
+    ∷ adjusts (daOf 0x3C 0x00) 0x60 0x42 0x00
+    -- DECW 0000 = FFFF
+    ∷ eqb (decwOf 0x0000 .value) 0xFFFF
+    -- bytes 8B FE at 0010 jump to 0010: the displacement FE, from the next instruction
+    ∷ eqb (movedBy 0x0012 (dispOf 0xFE)) 0x0010
+    -- P 3, N 2, fresh load, divider 0: 23 cycles no end, 24 one, 48 two
+    ∷ eqb (endsIn 0x0D 0x02 23) 0
+    ∷ eqb (endsIn 0x0D 0x02 24) 1
+    ∷ eqb (endsIn 0x0D 0x02 48) 2
+    -- P 64, N 256: 65,535 none, 65,536 one
+    ∷ eqb (endsIn 0x01 0x00 65535) 0
+    ∷ eqb (endsIn 0x01 0x00 65536) 1
+    ∷ []
