@@ -27,20 +27,20 @@ abbrev pub adjusts : Adjusted → ℕ → ℕ → ℕ → Bool
 adjusts (By o) f value flags = after o f value flags
 adjusts NoRow f value flags = false
 
--- a timer as after a reset, and both of them at divider 0
+-- a timer as after a reset, and both of them at a divider
 abbrev pub resting : Counting
 resting = record { timer = record { prescaler = 64; counter = 256 }; enabled = false }
 
-abbrev pub atZero : Moving
-atZero = record { divider = 0; t0 = resting; t1 = resting; lines = record { irq = 0; tout = true } }
+abbrev pub restingAt : ℕ → Moving
+restingAt divider = record { divider = divider; t0 = resting; t1 = resting; lines = record { irq = 0; tout = true } }
 
 -- these bytes in PRE0 and T0, and 03 written to TMR: T0 loaded and enabled
 abbrev pub loading : ℕ → ℕ → Control
 loading pre0 t0 = record { tmr = 0x03; t1 = 0; pre1 = 0; t0 = t0; pre0 = pre0; port3 = 0xFF }
 
 -- T0's ends in n cycles after that
-abbrev pub endsIn : ℕ → ℕ → ℕ → ℕ
-endsIn pre0 t0 n = cycles (settingOf (loading pre0 t0)) n (written (loading pre0 t0) atZero) .ends0
+abbrev pub endsIn : ℕ → ℕ → ℕ → ℕ → ℕ
+endsIn divider pre0 t0 n = cycles (settingOf (loading pre0 t0)) n (written (loading pre0 t0) (restingAt divider)) .ends0
 
 -- Of the FLAGS byte before (the second argument of `after` and `adjusts`), each flag that 01 gives is the opposite of what it
 -- becomes. PRE0 0D is P 3, repeating; 01 is P 64, repeating; T0 00 is N 256.
@@ -65,10 +65,10 @@ examples =
     -- bytes 8B FE at 0010 jump to 0010: the displacement FE, from the next instruction
     ∷ eqb (movedBy 0x0012 (dispOf 0xFE)) 0x0010
     -- P 3, N 2, fresh load, divider 0: 23 cycles no end, 24 one, 48 two
-    ∷ eqb (endsIn 0x0D 0x02 23) 0
-    ∷ eqb (endsIn 0x0D 0x02 24) 1
-    ∷ eqb (endsIn 0x0D 0x02 48) 2
+    ∷ eqb (endsIn 0 0x0D 0x02 23) 0
+    ∷ eqb (endsIn 0 0x0D 0x02 24) 1
+    ∷ eqb (endsIn 0 0x0D 0x02 48) 2
     -- P 64, N 256: 65,535 none, 65,536 one
-    ∷ eqb (endsIn 0x01 0x00 65535) 0
-    ∷ eqb (endsIn 0x01 0x00 65536) 1
+    ∷ eqb (endsIn 0 0x01 0x00 65535) 0
+    ∷ eqb (endsIn 0 0x01 0x00 65536) 1
     ∷ []

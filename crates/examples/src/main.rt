@@ -30,10 +30,7 @@ fn longest_span(divider: u32)
 {
     let t0 = resting();
     let t1 = resting();
-    let lines = Lines {
-        irq: 0,
-        tout: true,
-    };
+    let lines = Lines { irq: 0, tout: true };
     let before = Moving {
         divider,
         t0,
@@ -50,7 +47,10 @@ fn longest_span(divider: u32)
     };
     let loaded = timers::clock::write_tmr(c, before);
     let x = timers::clock::span(c, loaded, 4294967295);
-    io::write_all(STDOUT_FILENO, b"P 1, N 1, fresh load, 4294967295 cycles from divider ");
+    io::write_all(
+        STDOUT_FILENO,
+        b"P 1, N 1, fresh load, 4294967295 cycles from divider ",
+    );
     io::print_decimal(STDOUT_FILENO, divider as u64);
     io::write_all(STDOUT_FILENO, b": ends of T0 ");
     io::print_decimal(STDOUT_FILENO, x.ends0 as u64);

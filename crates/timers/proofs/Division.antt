@@ -6,12 +6,12 @@ use native.Mathlib.Nat.{add-zero, sub-zero, zero-mul, mod-lt, div-lt-iff-lt-mul,
 use native.Mathlib.Omega.{arith}
 use borrow.Author.Tests.{lt-ltb}
 use Rattle.timers.specs.Iter.{iter}
-use Rattle.timers.specs.Timer.{moved, stopped, noEnd, tick, moves, ticked, more, ticks, down, LegalSetup, LegalCounting}
+use Rattle.timers.specs.Timer.{moved, stopped, noEnd, tick, moves, ticked, more, ticks, LegalSetup, LegalCounting}
 use Rattle.timers.specs.declared.Source.{Source}
 use Rattle.timers.specs.declared.Setup.{Setup}
 use Rattle.timers.specs.declared.Counting.{Counting}
 use Rattle.timers.specs.declared.Ticked.{Ticked}
-use Rattle.timers.proofs.Iterate.{iter-zero, iter-suc, iter-add, iter-split, iter-fixed}
+use Rattle.timers.proofs.Iterate.{iter-zero, iter-suc, iter-split, iter-fixed}
 
 -- the timer at other counts, with `e` ends behind it
 abbrev pub at : Counting → ℕ → ℕ → ℕ → Ticked

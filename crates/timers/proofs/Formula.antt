@@ -1,7 +1,7 @@
 -- The ends of a steady timer, by one division. Assumes nothing.
 use mathlib.Core.Path.{_≡_, refl, ap, ap₂, sym, _∙_}
 use mathlib.Core.Bool.{true}
-use Prim.Native.Nat.{ℕ, _+_, _-_, _*_, _/_, _%_, _≤_, _<_}
+use Prim.Native.Nat.{ℕ, _+_, _-_, _*_, _/_, _≤_, _<_}
 use native.Mathlib.Nat.{add-mul-div-left, add-mul-mod-self-left, div-eq-of-lt, mod-eq-of-lt, mul-le-mul-left, div-div-eq-div-mul}
 use native.Mathlib.Omega.{arith}
 use Rattle.timers.specs.Iter.{iter}
@@ -13,7 +13,6 @@ use Rattle.timers.specs.declared.Counting.{Counting}
 use Rattle.timers.specs.declared.Ticked.{Ticked}
 use Rattle.timers.specs.declared.Setting.{Setting}
 use Rattle.timers.specs.declared.Moving.{Moving}
-use Rattle.timers.specs.declared.Spanned.{Spanned}
 use Rattle.timers.proofs.Iterate.{iter-add}
 use Rattle.timers.proofs.Division.{at, part, fresh}
 use Rattle.timers.proofs.Cycles.{cycles-apart}

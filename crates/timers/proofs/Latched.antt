@@ -16,11 +16,11 @@ or-assoc a =
     (λ (n : ℕ). (b c : ℕ) → bitOr (bitOr n b) c ≡ bitOr n (bitOr b c))
     (λ b c. refl)
     (λ n ih b c.
-      or-step (bitOr n b) c
-      ∙ ap₂ (λ (x y : ℕ). bitOr x (c / 2) * 2 + max y (c % 2)) (or-shr n b 1) (or-mod n b 1)
-      ∙ ap₂ (λ (x y : ℕ). x * 2 + y) (ih (b / 2) (c / 2)) (digit (n % 2) (b % 2) (c % 2) (omega arith) (omega arith) (omega arith))
-      ∙ sym (ap₂ (λ (x y : ℕ). bitOr (n / 2) x * 2 + max (n % 2) y) (or-shr b c 1) (or-mod b c 1))
-      ∙ sym (or-step n (bitOr b c)))
+    or-step (bitOr n b) c
+    ∙ ap₂ (λ (x y : ℕ). bitOr x (c / 2) * 2 + max y (c % 2)) (or-shr n b 1) (or-mod n b 1)
+    ∙ ap₂ (λ (x y : ℕ). x * 2 + y) (ih (b / 2) (c / 2)) (digit (n % 2) (b % 2) (c % 2) (omega arith) (omega arith) (omega arith))
+    ∙ sym (ap₂ (λ (x y : ℕ). bitOr (n / 2) x * 2 + max (n % 2) y) (or-shr b c 1) (or-mod b c 1))
+    ∙ sym (or-step n (bitOr b c)))
     a
   where
     digit : (x y z : ℕ) → x < 2 → y < 2 → z < 2 → max (bitOr x y) z ≡ max x (bitOr y z)

@@ -1,5 +1,5 @@
 -- What the control registers say is legal, and cycles, edges and writes to TMR keep what is legal. Assumes nothing.
-use mathlib.Core.Path.{_≡_, refl, sym}
+use mathlib.Core.Path.{_≡_, refl}
 use mathlib.Core.Bool.{Bool, true, false}
 use Prim.Native.Nat.{ℕ, _+_, _-_, _/_, _%_, _≤_, _<_}
 use native.Mathlib.Decide.{decLt}
@@ -10,7 +10,6 @@ use lib.Bits.{bitAnd}
 use borrow.Author.Tests.{lt-ltb, le-ltb, eqb-false}
 use Rattle.word.specs.Fields.{bitOf}
 use Rattle.word.proofs.Computed.{by-test, agree}
-use Rattle.timers.specs.Iter.{iter}
 use Rattle.timers.specs.Control.{orHighest, setupOf, settingOf, kept}
 use Rattle.timers.specs.Timer.{tick, moves, ticked, loaded, LegalSetup, LegalCounting}
 use Rattle.timers.specs.Clock.{both, cycle, cycles, begun, atDivider, endOf, edgeOf, written, LegalSetting, LegalMoving}
@@ -93,7 +92,7 @@ module _ (s : Setting) (ls : LegalSetting s) where
   cycle-legal x l =
       let d = (x .now .divider + 1) % 4 in
       let counted : LegalMoving (atDivider x d .now) =
-          record { divider-high = omega arith; counting0 = l .counting0; counting1 = l .counting1; irq-high = l .irq-high } in
+      record { divider-high = omega arith; counting0 = l .counting0; counting1 = l .counting1; irq-high = l .irq-high } in
       by-test (λ (y : Spanned). LegalMoving (y .now)) (eqb d 0) (λ e. both-legal Divider (atDivider x d) counted) (λ e. counted)
 
   pub cycles-legal : (n : ℕ) (m : Moving) → LegalMoving m → LegalMoving (cycles s n m .now)

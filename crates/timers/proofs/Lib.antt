@@ -6,3 +6,4 @@ pub mod Cycles
 pub mod Formula
 pub mod Legal
 pub mod Row
+pub mod Theorems

@@ -7,7 +7,6 @@ use Rattle.timers.specs.Iter.{iter}
 use Rattle.timers.specs.declared.Source.{Source}
 use Rattle.timers.specs.declared.Source.the-variants.{Divider, Edges, Nowhere}
 use Rattle.timers.specs.declared.Setup.{Setup}
-use Rattle.timers.specs.declared.Timer.{Timer}
 use Rattle.timers.specs.declared.Counting.{Counting}
 use Rattle.timers.specs.declared.Ticked.{Ticked}
 

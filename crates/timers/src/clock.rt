@@ -19,7 +19,11 @@ fn raised(n: u8, irq: u8, e: u32) -> u8
     requires { ⌜ n < 6 ⌝ }
     ensures { λ r. ⌜ r ≡ iter e (latch n) irq ⌝ }
 {
-    if 0 < e { crate::requests::latch(n, irq) } else { irq }
+    if 0 < e {
+        crate::requests::latch(n, irq)
+    } else {
+        irq
+    }
 }
 
 // The T_OUT level after e ends of a timer that drives it, or doesn't.
@@ -112,7 +116,6 @@ pub fn write_tmr(c: Control, m: Moving) -> Moving
     ensures { λ r. ⌜ r ≡ written c m ⌝ }
 {
     let v = c.tmr;
-    let divider = m.divider;
     let lines = m.lines;
     let c0 = m.t0;
     let c1 = m.t1;
@@ -132,7 +135,7 @@ pub fn write_tmr(c: Control, m: Moving) -> Moving
         tout: second,
     };
     Moving {
-        divider,
+        divider: m.divider,
         t0,
         t1,
         lines: after,

@@ -5,7 +5,8 @@ pub mod registers;
 pub mod requests;
 mod ticks;
 
-// All that the timers read: the control registers F1 to F5 in address order, and the pins of Port 3.
+// All that the timers read: the control registers F1 to F5 in address order, and the pins of Port 3. Of TMR the cycles read the
+// modes alone; the enable bits, which an end may clear, are with what moves.
 pub struct Control {
     pub tmr: u8,
     pub t1: u8,

@@ -43,7 +43,11 @@ fn gated(port3: u8) -> Source
     ensures { λ r. ⌜ r ≡ gated port3 ⌝ }
 {
     let high = is_set(1, port3);
-    if high { Source::Divider } else { Source::Nowhere }
+    if high {
+        Source::Divider
+    } else {
+        Source::Nowhere
+    }
 }
 
 fn source_of_t1(pre1: u8, tmr: u8, port3: u8) -> Source

@@ -5,7 +5,7 @@ use crate::Source;
 use crate::Ticked;
 use crate::Timer;
 ghost use mathlib.Core.Path.{_≡_};
-ghost use Prim.Native.Nat.{_*_, _<_};
+ghost use Prim.Native.Nat.{_*_, _≤_, _<_};
 ghost use Rattle.timers.specs.Timer.{number, moves, moved, stopped, down, ticks, loaded, LegalSetup, LegalCounting};
 
 fn number(s: Source) -> u32
@@ -51,6 +51,15 @@ fn stopped(c: Counting, prescaler: u32) -> Counting
     }
 }
 
+// The ticks in so many whole rounds of the prescaler.
+fn ticks_in(p: u32, rounds: u32) -> u32
+    requires { ⌜ p ≤ 64 ⌝ }
+    requires { ⌜ rounds ≤ 256 ⌝ }
+    ensures { λ r. ⌜ r ≡ p * rounds ⌝ }
+{
+    p * rounds
+}
+
 // A count that had `rounds` whole rounds of the prescaler to go, r ticks later.
 fn down(c: Counting, p: u32, rounds: u32, r: u32) -> Counting
     requires { ⌜ 0 < p ⌝ }
@@ -89,7 +98,7 @@ pub fn advance(by: Source, s: Setup, c: Counting, k: u32) -> Ticked
         return Ticked { counting, ends: 0 };
     }
     let rounds = counter - 1;
-    let left = p * rounds;
+    let left = ticks_in(p, rounds);
     let gone = k - prescaler;
     if gone < left {
         let counting = down(c, p, rounds, gone);
@@ -100,7 +109,7 @@ pub fn advance(by: Source, s: Setup, c: Counting, k: u32) -> Ticked
         return Ticked { counting, ends: 1 };
     }
     let over = gone - left;
-    let whole = p * n;
+    let whole = ticks_in(p, n);
     let rest = over % whole;
     let later = over / whole;
     let ends = 1 + later;

@@ -22,7 +22,11 @@ fn draw_below(i: u32, j: u32, narrow: u32, wide: u32) -> u32
     ensures below { λ r. ⌜ r < wide ⌝ }
 {
     let x = draw(i, j);
-    if draw(i, 0) % 2 == 0 { x % narrow } else { x % wide }
+    if draw(i, 0) % 2 == 0 {
+        x % narrow
+    } else {
+        x % wide
+    }
 }
 
 fn byte(i: u32, j: u32) -> u8 {

@@ -1,93 +1,67 @@
 use borrow.Author.Needs.{needs}
 use Rattle.examples.proofs.longest_span.Statement.{statement}
 use Rattle.examples.proofs.longest_span.Tie as tie
-use Rattle.examples.proofs.longest_span.Reads as reads
-use Rattle.examples.proofs.longest_span.Lts as lts
-use Rattle.examples.proofs.resting.Reads as resting-reads
-use Rattle.io.proofs.print_decimal.Reads as print-decimal-reads
-use Rattle.io.proofs.write_all.Reads as write-all-reads
-use Rattle.timers.proofs.clock.span.Reads as span-reads
-use Rattle.timers.proofs.clock.write_tmr.Reads as write-tmr-reads
-use mathlib.Core.Path.{_≡_}
 use native.Mathlib.Omega.{arith}
 use Rattle.timers.specs.Timer.{LegalCounting}
 use Rattle.timers.proofs.Legal.{setting-legal, written-legal}
 use Rattle.examples.specs.Examples.{resting}
 
--- src/main.rt:31:9
 resting-requires : tie.Need-resting-requires
 resting-requires c κs = search needs
 
--- src/main.rt:32:9
 resting-requires-2 : tie.Need-resting-requires-2
 resting-requires-2 c κs = search needs
 
--- src/main.rt:51:9
 write-tmr-requires : tie.Need-write-tmr-requires
 write-tmr-requires c κs = search needs
 
--- src/main.rt:52:9
 span-requires : tie.Need-span-requires
-span-requires c κs = 
+span-requires c κs =
     let rests : LegalCounting resting = omega arith in
     rw (c .write-tmr .ensures, c .before .resting2 .ensures, c .before .before .resting .ensures)
     (written-legal _ _
     (setting-legal _ (omega arith) (omega arith) (omega arith) (omega arith))
     (record { divider-high = c .before .before .before .pre; counting0 = rests; counting1 = rests; irq-high = omega arith }))
 
--- src/main.rt:53:34
 slice-aggregate-write-all : tie.Need-slice-aggregate-write-all
 slice-aggregate-write-all c = search needs
 
--- src/main.rt:53:5
 write-all-requires : tie.Need-write-all-requires
 write-all-requires c κs = search needs
 
--- src/main.rt:54:5
 print-decimal-requires : tie.Need-print-decimal-requires
 print-decimal-requires c κs = search needs
 
--- src/main.rt:55:34
 slice-aggregate-write-all-2 : tie.Need-slice-aggregate-write-all-2
 slice-aggregate-write-all-2 c = search needs
 
--- src/main.rt:55:5
 write-all-requires-2 : tie.Need-write-all-requires-2
 write-all-requires-2 c κs = search needs
 
--- src/main.rt:56:38
 cast-print-decimal : tie.Need-cast-print-decimal
 cast-print-decimal c = search needs
 
--- src/main.rt:56:5
 print-decimal-requires-2 : tie.Need-print-decimal-requires-2
 print-decimal-requires-2 c κs = search needs
 
--- src/main.rt:57:34
 slice-aggregate-write-all-3 : tie.Need-slice-aggregate-write-all-3
 slice-aggregate-write-all-3 c = search needs
 
--- src/main.rt:57:5
 write-all-requires-3 : tie.Need-write-all-requires-3
 write-all-requires-3 c κs = search needs
 
--- src/main.rt:58:38
 cast-print-decimal-2 : tie.Need-cast-print-decimal-2
 cast-print-decimal-2 c = search needs
 
--- src/main.rt:58:5
 print-decimal-requires-3 : tie.Need-print-decimal-requires-3
 print-decimal-requires-3 c κs = search needs
 
--- src/main.rt:59:34
 slice-aggregate-write-all-4 : tie.Need-slice-aggregate-write-all-4
 slice-aggregate-write-all-4 c = search needs
 
--- src/main.rt:59:5
 write-all-requires-4 : tie.Need-write-all-requires-4
 write-all-requires-4 c κs = search needs
 
--- src/main.rt:28:1
 returns : tie.Need-returns
 returns c = search needs
 

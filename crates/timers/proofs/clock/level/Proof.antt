@@ -1,32 +1,27 @@
 use Rattle.timers.proofs.clock.level.Statement.{statement}
 use Rattle.timers.proofs.clock.level.Tie as tie
-use Rattle.timers.proofs.clock.level.Reads as reads
-use Rattle.timers.proofs.clock.level.Lts as lts
-use mathlib.Core.Path.{_≡_, sym, _∙_}
+use mathlib.Core.Path.{_≡_, sym}
 use mathlib.Core.Bool.{true, false}
 use Prim.Native.Nat.{_%_}
 use lib.Dec.{eqb}
 use borrow.Author.Tests.{not-true, not-false, eq-eqb, ne-eqb}
 use Rattle.timers.proofs.Ends.{level-driven, level-kept}
 
--- src/clock.rt:30:9
 returns : tie.Need-returns
-returns c = 
+returns c =
     let a = c .before .args in
     let idle : a .drives ≡ false = not-true _ (c .if1 .taken) in
     rw idle (sym (level-kept (a .e) (a .tout)))
 
--- src/clock.rt:26:1
 returns-2 : tie.Need-returns-2
-returns-2 c = 
+returns-2 c =
     let a = c .before .before .args in
     let chosen : a .drives ≡ true = not-false _ (c .before .if1 .left) in
     let odd : eqb (a .e % 2) 1 ≡ true = eq-eqb (a .e % 2) 1 (c .if2 .taken) in
     rw (chosen, level-driven (a .e) (a .tout), odd)
 
--- src/clock.rt:26:1
 returns-3 : tie.Need-returns-3
-returns-3 c = 
+returns-3 c =
     let a = c .before .before .args in
     let chosen : a .drives ≡ true = not-false _ (c .before .if1 .left) in
     let even : eqb (a .e % 2) 1 ≡ false = ne-eqb (a .e % 2) 1 (c .if2 .left) in

@@ -1,26 +1,20 @@
 use borrow.Author.Needs.{needs}
 use Rattle.timers.proofs.clock.raised.Statement.{statement}
 use Rattle.timers.proofs.clock.raised.Tie as tie
-use Rattle.timers.proofs.clock.raised.Reads as reads
-use Rattle.timers.proofs.clock.raised.Lts as lts
-use Rattle.timers.proofs.requests.latch.Reads as latch-reads
 use mathlib.Core.Path.{_≡_, sym, _∙_}
 use native.Mathlib.Omega.{arith}
 use Rattle.timers.specs.Requests.{latch}
 use Rattle.timers.proofs.Iterate.{iter-zero}
 use Rattle.timers.proofs.Latched.{latch-often}
 
--- src/clock.rt:22:16
 latch-requires : tie.Need-latch-requires
 latch-requires c κs = search needs
 
--- src/clock.rt:18:1
 returns : tie.Need-returns
 returns c = c .latch .ensures ∙ sym (latch-often (c .before .before .args .n) (c .before .before .args .e) (c .before .before .args .irq) (c .before .if1 .taken))
 
--- src/clock.rt:18:1
 returns-2 : tie.Need-returns-2
-returns-2 c = 
+returns-2 c =
     let none : c .before .args .e ≡ 0 = omega (arith, c .if1 .left) in
     rw none (sym (iter-zero (latch (c .before .args .n)) (c .before .args .irq)))
 

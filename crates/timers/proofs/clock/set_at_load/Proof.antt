@@ -1,22 +1,15 @@
 use Rattle.timers.proofs.clock.set_at_load.Statement.{statement}
 use Rattle.timers.proofs.clock.set_at_load.Tie as tie
-use Rattle.timers.proofs.clock.set_at_load.Reads as reads
-use Rattle.timers.proofs.clock.set_at_load.Lts as lts
 use Rattle.timers.specs.Clock.{setAtLoad}
-use mathlib.Core.Path.{_≡_}
-use mathlib.Core.Bool.{true, false}
 
--- src/clock.rt:99:1
 returns : tie.Need-returns
 unfolding setAtLoad
 returns c = rw (c .before .if1 .taken, c .if2 .taken)
 
--- src/clock.rt:99:1
 returns-2 : tie.Need-returns-2
 unfolding setAtLoad
 returns-2 c = rw (c .before .if1 .taken, c .if2 .left)
 
--- src/clock.rt:99:1
 returns-3 : tie.Need-returns-3
 unfolding setAtLoad
 returns-3 c = rw (c .if1 .left)

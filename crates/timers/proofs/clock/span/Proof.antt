@@ -1,11 +1,7 @@
 use borrow.Author.Needs.{needs}
 use Rattle.timers.proofs.clock.span.Statement.{statement}
 use Rattle.timers.proofs.clock.span.Tie as tie
-use Rattle.timers.proofs.clock.span.Reads as reads
-use Rattle.timers.proofs.clock.span.Lts as lts
-use Rattle.timers.proofs.clock.tick_both.Reads as tick-both-reads
-use Rattle.timers.proofs.registers.setting.Reads as setting-reads
-use mathlib.Core.Path.{sym, _∙_}
+use mathlib.Core.Path.{sym}
 use Prim.Native.Nat.{_+_, _/_, _%_}
 use native.Mathlib.Omega.{arith}
 use Rattle.timers.specs.Clock.{LegalMoving}
@@ -14,30 +10,25 @@ use Rattle.timers.specs.declared.Source.the-variants.{Divider}
 use Rattle.timers.proofs.Legal.{setting-legal}
 use Rattle.timers.proofs.Cycles.{cycles-apart, ticks-apart}
 
--- src/clock.rt:81:15
 add-sum : tie.Need-add-sum
 add-sum c = search needs
 
--- src/clock.rt:82:13
 add-k : tie.Need-add-k
 add-k c = search needs
 
--- src/clock.rt:83:9
 setting-requires : tie.Need-setting-requires
 setting-requires c κs = search needs
 
--- src/clock.rt:86:5
 tick-both-requires : tie.Need-tick-both-requires
-tick-both-requires c κs = 
+tick-both-requires c κs =
     let a = c .before .args in
     let l = c .before .pre in
     let moved : LegalMoving (record { divider = (a .m .divider + a .n % 4) % 4; t0 = a .m .t0; t1 = a .m .t1; lines = a .m .lines }) =
-        record { divider-high = omega arith; counting0 = l .counting0; counting1 = l .counting1; irq-high = l .irq-high } in
+    record { divider-high = omega arith; counting0 = l .counting0; counting1 = l .counting1; irq-high = l .irq-high } in
     (rw (c .setting .ensures) (setting-legal (a .c) (search needs) (search needs) (search needs) (search needs)), moved)
 
--- src/clock.rt:76:1
 returns : tie.Need-returns
-returns c = 
+returns c =
     let st = c .before .before in
     let a = st .args in
     rw (c .tick-both .ensures, c .before .setting .ensures, ticks-apart (settingOf (a .c)) Divider)
@@ -47,8 +38,8 @@ returns c =
     (a .m)
     (st .pre .divider-high)
     (a .n)
-    (a .n / 4 + (a .m .divider + a .n % 4) / 4)
-    ((a .m .divider + a .n % 4) % 4)
+    _
+    _
     (omega arith)
     (omega arith)))
 

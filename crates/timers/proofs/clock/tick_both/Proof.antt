@@ -1,29 +1,20 @@
 use borrow.Author.Needs.{needs}
 use Rattle.timers.proofs.clock.tick_both.Statement.{statement}
 use Rattle.timers.proofs.clock.tick_both.Tie as tie
-use Rattle.timers.proofs.clock.tick_both.Reads as reads
-use Rattle.timers.proofs.clock.tick_both.Lts as lts
-use Rattle.timers.proofs.clock.ended.Reads as ended-reads
-use Rattle.timers.proofs.ticks.advance.Reads as advance-reads
 use Rattle.timers.proofs.Cycles.{ticks-apart}
 
--- src/clock.rt:57:9
 advance-requires : tie.Need-advance-requires
 advance-requires c κs = search needs
 
--- src/clock.rt:58:9
 advance-requires-2 : tie.Need-advance-requires-2
 advance-requires-2 c κs = search needs
 
--- src/clock.rt:61:9
 ended-requires : tie.Need-ended-requires
 ended-requires c κs = search needs
 
--- src/clock.rt:62:9
 ended-requires-2 : tie.Need-ended-requires-2
 ended-requires-2 c κs = search needs
 
--- src/clock.rt:46:1
 returns : tie.Need-returns
 returns c = rw (ticks-apart (c .before .before .before .before .before .before .before .before .before .before .before .args .s) (c .before .before .before .before .before .before .before .before .before .before .before .args .by), c .before .before .ended2 .ensures, c .before .before .before .ended .ensures, c .before .before .before .before .advance2 .ensures, c .before .before .before .before .before .advance .ensures)
 

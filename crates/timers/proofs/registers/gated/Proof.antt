@@ -1,28 +1,22 @@
 use borrow.Author.Needs.{needs}
 use Rattle.timers.proofs.registers.gated.Statement.{statement}
 use Rattle.timers.proofs.registers.gated.Tie as tie
-use Rattle.timers.proofs.registers.gated.Reads as reads
-use Rattle.timers.proofs.registers.gated.Lts as lts
-use Rattle.timers.proofs.registers.is_set.Reads as is-set-reads
 use Rattle.timers.specs.Control.{gated, isSet}
 use mathlib.Core.Path.{_≡_, sym, _∙_}
 use mathlib.Core.Bool.{true, false}
 
--- src/registers.rt:45:9
 is-set-requires : tie.Need-is-set-requires
 is-set-requires c κs = search needs
 
--- src/registers.rt:42:1
 returns : tie.Need-returns
 unfolding gated
-returns c = 
+returns c =
     let high : isSet 1 (c .before .before .args .port3) ≡ true = sym (c .before .is-set .ensures) ∙ c .if1 .taken in
     rw high
 
--- src/registers.rt:42:1
 returns-2 : tie.Need-returns-2
 unfolding gated
-returns-2 c = 
+returns-2 c =
     let low : isSet 1 (c .before .before .args .port3) ≡ false = sym (c .before .is-set .ensures) ∙ c .if1 .left in
     rw low
 

@@ -1,11 +1,8 @@
 use Rattle.timers.proofs.registers.kept.Statement.{statement}
 use Rattle.timers.proofs.registers.kept.Tie as tie
-use Rattle.timers.proofs.registers.kept.Reads as reads
-use Rattle.timers.proofs.registers.kept.Lts as lts
 use Rattle.timers.specs.Control.{kept}
 use mathlib.Core.Path.{refl}
 
--- src/registers.rt:79:1
 returns : tie.Need-returns
 unfolding kept
 returns c = refl

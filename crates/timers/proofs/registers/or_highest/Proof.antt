@@ -1,24 +1,20 @@
 use Rattle.timers.proofs.registers.or_highest.Statement.{statement}
 use Rattle.timers.proofs.registers.or_highest.Tie as tie
-use Rattle.timers.proofs.registers.or_highest.Reads as reads
-use Rattle.timers.proofs.registers.or_highest.Lts as lts
 use Rattle.timers.specs.Control.{orHighest}
 use mathlib.Core.Path.{_≡_}
 use mathlib.Core.Bool.{true, false}
 use lib.Dec.{eqb}
 use borrow.Author.Tests.{eq-eqb, ne-eqb}
 
--- src/registers.rt:19:1
 returns : tie.Need-returns
 unfolding orHighest
-returns c = 
+returns c =
     let none : eqb (c .before .args .field) 0 ≡ true = eq-eqb (c .before .args .field) 0 (c .if1 .taken) in
     rw none
 
--- src/registers.rt:19:1
 returns-2 : tie.Need-returns-2
 unfolding orHighest
-returns-2 c = 
+returns-2 c =
     let some : eqb (c .before .args .field) 0 ≡ false = ne-eqb (c .before .args .field) 0 (c .if1 .left) in
     rw some
 

@@ -1,25 +1,17 @@
 use borrow.Author.Needs.{needs}
 use Rattle.timers.proofs.registers.setup.Statement.{statement}
 use Rattle.timers.proofs.registers.setup.Tie as tie
-use Rattle.timers.proofs.registers.setup.Reads as reads
-use Rattle.timers.proofs.registers.setup.Lts as lts
-use Rattle.timers.proofs.registers.is_set.Reads as is-set-reads
-use Rattle.timers.proofs.registers.or_highest.Reads as or-highest-reads
 use Rattle.timers.specs.Control.{setupOf}
 
--- src/registers.rt:28:9
 or-highest-requires : tie.Need-or-highest-requires
 or-highest-requires c κs = search needs
 
--- src/registers.rt:29:9
 or-highest-requires-2 : tie.Need-or-highest-requires-2
 or-highest-requires-2 c κs = search needs
 
--- src/registers.rt:30:9
 is-set-requires : tie.Need-is-set-requires
 is-set-requires c κs = search needs
 
--- src/registers.rt:25:1
 returns : tie.Need-returns
 unfolding setupOf
 returns c = rw (c .is-set .ensures, c .before .or-highest2 .ensures, c .before .before .or-highest .ensures)

@@ -1,19 +1,15 @@
 use borrow.Author.Needs.{needs}
 use Rattle.timers.proofs.requests.latch.Statement.{statement}
 use Rattle.timers.proofs.requests.latch.Tie as tie
-use Rattle.timers.proofs.requests.latch.Reads as reads
-use Rattle.timers.proofs.requests.latch.Lts as lts
 use mathlib.Core.Path.{refl, ap}
 use Prim.Native.Nat.{_*_, _%_, _^_}
 use lib.Bits.{bitOr}
 use Rattle.word.proofs.Computed.{agree}
 use Rattle.timers.specs.Requests.{latch}
 
--- src/requests.rt:11:12
 shl-result : tie.Need-shl-result
 shl-result c = search needs
 
--- src/requests.rt:7:1
 returns : tie.Need-returns
 unfolding latch
 returns c = ap (bitOr (c .args .irq)) (agree (λ n. 1 * 2 ^ n % 256) (λ n. 2 ^ n) 6 refl (c .args .n) (c .pre))

@@ -1,27 +1,20 @@
 use borrow.Author.Needs.{needs}
 use Rattle.timers.proofs.ticks.moves.Statement.{statement}
 use Rattle.timers.proofs.ticks.moves.Tie as tie
-use Rattle.timers.proofs.ticks.moves.Reads as reads
-use Rattle.timers.proofs.ticks.moves.Lts as lts
-use Rattle.timers.proofs.ticks.number.Reads as number-reads
 use mathlib.Core.Path.{_≡_}
 use mathlib.Core.Bool.{true}
 
--- src/ticks.rt:27:9
 number-requires : tie.Need-number-requires
 number-requires c κs = search needs
 
--- src/ticks.rt:28:9
 number-requires-2 : tie.Need-number-requires-2
 number-requires-2 c κs = search needs
 
--- src/ticks.rt:22:1
 returns : tie.Need-returns
-returns c = 
+returns c =
     let on : c .before .before .before .args .c .enabled ≡ true = c .if1 .taken in
     rw (on, c .before .number2 .ensures, c .before .before .number .ensures)
 
--- src/ticks.rt:22:1
 returns-2 : tie.Need-returns-2
 returns-2 c = search needs
 
