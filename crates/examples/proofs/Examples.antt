@@ -20,6 +20,7 @@ use Rattle.timers.specs.Clock.{endOf, both, cycle, cycles, setAtLoad, written, 
 use Rattle.timers.specs.Timer.{LegalCounting}
 use Rattle.timers.proofs.Legal.{setting-legal, written-legal}
 use Rattle.timers.proofs.Formula.{formula}
+use Rattle.timers.specs.declared.Control.{Control}
 use Rattle.examples.specs.Examples.{examples, resting, restingAt, loading, endsIn}
 
 abbrev pub all : List Bool → Bool
@@ -31,7 +32,10 @@ unfolding examples laid packed addOf additionOf subOf subtractionOf differenceOf
 examples-hold = tt
 
 -- P 1, N 1, fresh load: by the formula, as the longest span is too long to be computed cycle by cycle
-steady : (d : ℕ) → Steady (settingOf (loading 0x05 0x01) .t0) (written (loading 0x05 0x01) (restingAt d) .t0)
+abbrev shortest : Control
+shortest = loading 0x05 0x01
+
+steady : (d : ℕ) → Steady (settingOf shortest .t0) (written shortest (restingAt d) .t0)
 unfolding settingOf setupOf orHighest written loaded
 steady d = record { clocked = refl; enabled = refl; repeating = refl; prescaler-within = omega arith; counter-within = omega arith }
 
@@ -39,9 +43,9 @@ ends-by-formula : (d n : ℕ) → d < 4 → endsIn d 0x05 0x01 n ≡ (n + d) / 4
 unfolding settingOf setupOf orHighest written loaded
 ends-by-formula d n h =
     let rests : LegalCounting resting = omega arith in
-    let legal : LegalSetting (settingOf (loading 0x05 0x01)) = setting-legal (loading 0x05 0x01) (omega arith) (omega arith) (omega arith) (omega arith) in
-    let now : LegalMoving (restingAt d) = record { divider-high = h; counting0 = rests; counting1 = rests; irq-high = omega arith } in
-    formula (settingOf (loading 0x05 0x01)) (written (loading 0x05 0x01) (restingAt d)) legal (written-legal _ _ legal now) T0 n (steady d)
+    let before : LegalMoving (restingAt d) = record { divider-high = h; counting0 = rests; counting1 = rests; irq-high = omega arith } in
+    let legal : LegalSetting (settingOf shortest) = setting-legal shortest (omega arith) (omega arith) (omega arith) (omega arith) in
+    formula (settingOf shortest) (written shortest (restingAt d)) legal (written-legal shortest (restingAt d) legal before) T0 n (steady d)
     ∙ ap (λ (x : ℕ). (n + x) / 4) (add-zero d)
 
 pub longest-span : (endsIn 0 0x05 0x01 4294967295 ≡ 1073741823) × (endsIn 1 0x05 0x01 4294967295 ≡ 1073741824)
