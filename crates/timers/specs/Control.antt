@@ -4,16 +4,12 @@ use Prim.Native.Nat.{ℕ, _/_, _%_}
 use lib.Dec.{eqb}
 use lib.Bits.{bitAnd}
 use Rattle.word.specs.Choose.{pick}
-use Rattle.word.specs.Fields.{bitOf}
+use Rattle.word.specs.Fields.{isSet}
 use Rattle.timers.specs.declared.Control.{Control}
 use Rattle.timers.specs.declared.Source.{Source}
 use Rattle.timers.specs.declared.Source.the-variants.{Divider, Edges, Nowhere}
 use Rattle.timers.specs.declared.Setup.{Setup}
 use Rattle.timers.specs.declared.Setting.{Setting}
-
--- bit n of v is set
-abbrev pub isSet : ℕ → ℕ → Bool
-isSet n v = eqb (bitOf n v) 1
 
 -- a count whose field 0 stands for the highest: "Prescaler P is 1 to 64 (field 0 is 64), count N is 1 to 256 (byte 0 is 256)"
 unfoldable pub orHighest : ℕ → ℕ → ℕ

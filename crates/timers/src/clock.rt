@@ -122,10 +122,10 @@ pub fn write_tmr(c: Control, m: Moving) -> Moving
     let s = crate::registers::setting(c);
     let s0 = s.t0;
     let s1 = s.t1;
-    let load0 = crate::registers::is_set(0, v);
-    let enable0 = crate::registers::is_set(1, v);
-    let load1 = crate::registers::is_set(2, v);
-    let enable1 = crate::registers::is_set(3, v);
+    let load0 = word::is_set(0, v);
+    let enable0 = word::is_set(1, v);
+    let load1 = word::is_set(2, v);
+    let enable1 = word::is_set(3, v);
     let t0 = crate::ticks::loaded(s0, load0, enable0, c0);
     let t1 = crate::ticks::loaded(s1, load1, enable1, c1);
     let first = set_at_load(s0, load0, lines.tout);

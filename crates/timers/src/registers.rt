@@ -4,16 +4,7 @@ use crate::Setting;
 use crate::Setup;
 use crate::Source;
 ghost use mathlib.Core.Path.{_≡_};
-ghost use Prim.Native.Nat.{_<_};
-ghost use Rattle.timers.specs.Control.{isSet, orHighest, setupOf, gated, sourceOf1, settingOf, kept};
-
-// Whether bit n of v is set.
-pub fn is_set(n: u8, v: u8) -> bool
-    requires { ⌜ n < 8 ⌝ }
-    ensures { λ r. ⌜ r ≡ isSet n v ⌝ }
-{
-    word::bit(n, v) == 1
-}
+ghost use Rattle.timers.specs.Control.{orHighest, setupOf, gated, sourceOf1, settingOf, kept};
 
 // A count whose field 0 stands for the highest.
 fn or_highest(top: u32, field: u8) -> u32
@@ -27,7 +18,7 @@ fn setup(pre: u8, start: u8, source: Source, request: u8, drives: bool) -> Setup
 {
     let p = or_highest(64, pre / 4);
     let n = or_highest(256, start);
-    let repeats = is_set(0, pre);
+    let repeats = word::is_set(0, pre);
     Setup {
         p,
         n,
@@ -42,7 +33,7 @@ fn setup(pre: u8, start: u8, source: Source, request: u8, drives: bool) -> Setup
 fn gated(port3: u8) -> Source
     ensures { λ r. ⌜ r ≡ gated port3 ⌝ }
 {
-    let high = is_set(1, port3);
+    let high = word::is_set(1, port3);
     if high {
         Source::Divider
     } else {
@@ -53,7 +44,7 @@ fn gated(port3: u8) -> Source
 fn source_of_t1(pre1: u8, tmr: u8, port3: u8) -> Source
     ensures { λ r. ⌜ r ≡ sourceOf1 pre1 tmr port3 ⌝ }
 {
-    let internal = is_set(1, pre1);
+    let internal = word::is_set(1, pre1);
     if internal {
         return Source::Divider;
     }

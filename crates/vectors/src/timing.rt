@@ -63,8 +63,8 @@ fn moving(i: u32, tmr: u8) -> Moving
     ensures legal { λ r. ⌜ LegalMoving r ⌝ }
 {
     let divider = draw(i, 7) % 4;
-    let on0 = timers::registers::is_set(1, tmr);
-    let on1 = timers::registers::is_set(3, tmr);
+    let on0 = word::is_set(1, tmr);
+    let on1 = word::is_set(3, tmr);
     let t0 = counting(i, 8, on0);
     let t1 = counting(i, 10, on1);
     let irq = (draw(i, 12) % 64) as u8;

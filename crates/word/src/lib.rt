@@ -1,7 +1,7 @@
 // Bytes and words, with no chip in them.
 ghost use mathlib.Core.Path.{_≡_};
 ghost use Prim.Native.Nat.{_<_};
-ghost use Rattle.word.specs.Fields.{bitOf, upper, lower, wordOf, highByte, lowByte};
+ghost use Rattle.word.specs.Fields.{bitOf, isSet, upper, lower, wordOf, highByte, lowByte};
 ghost use Rattle.word.specs.Words.{plus, dispOf, movedBy};
 
 // Bit n of v, as 0 or 1.
@@ -10,6 +10,14 @@ pub fn bit(n: u8, v: u8) -> u8
     ensures { λ r. ⌜ r ≡ bitOf n v ⌝ }
 {
     (v >> n) % 2
+}
+
+// Whether bit n of v is set.
+pub fn is_set(n: u8, v: u8) -> bool
+    requires { ⌜ n < 8 ⌝ }
+    ensures { λ r. ⌜ r ≡ isSet n v ⌝ }
+{
+    bit(n, v) == 1
 }
 
 // The upper four bits of v.

@@ -1,7 +1,8 @@
 use borrow.Author.Needs.{needs}
 use Rattle.timers.proofs.registers.gated.Statement.{statement}
 use Rattle.timers.proofs.registers.gated.Tie as tie
-use Rattle.timers.specs.Control.{gated, isSet}
+use Rattle.timers.specs.Control.{gated}
+use Rattle.word.specs.Fields.{isSet}
 use mathlib.Core.Path.{_≡_, sym, _∙_}
 use mathlib.Core.Bool.{true, false}
 

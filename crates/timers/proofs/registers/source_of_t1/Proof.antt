@@ -1,7 +1,8 @@
 use borrow.Author.Needs.{needs}
 use Rattle.timers.proofs.registers.source_of_t1.Statement.{statement}
 use Rattle.timers.proofs.registers.source_of_t1.Tie as tie
-use Rattle.timers.specs.Control.{sourceOf1, isSet, tinMode}
+use Rattle.timers.specs.Control.{sourceOf1, tinMode}
+use Rattle.word.specs.Fields.{isSet}
 use mathlib.Core.Path.{_≡_, sym, _∙_}
 use mathlib.Core.Bool.{true, false}
 use lib.Dec.{eqb}

@@ -1,6 +1,6 @@
 use borrow.Author.Needs.{needs}
-use Rattle.timers.proofs.registers.is_set.Statement.{statement}
-use Rattle.timers.proofs.registers.is_set.Tie as tie
+use Rattle.word.proofs.is_set.Statement.{statement}
+use Rattle.word.proofs.is_set.Tie as tie
 
 bit-requires : tie.Need-bit-requires
 bit-requires c κs = search needs
