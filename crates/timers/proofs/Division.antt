@@ -22,12 +22,6 @@ first-round : (p n : ℕ) → 0 < n → p + p * (n - 1) ≡ p * n
 first-round p zero h = absurd (omega arith)
 first-round p (suc i) h = let g : suc i - 1 ≡ i = omega arith in rw g (omega arith)
 
--- what is left of a whole count has fewer rounds than it
-pub rounds-below : (o p n : ℕ) → 0 < p → 0 < n → o % (p * n) / p < n
-rounds-below o p n hp hn =
-    let h : o % (p * n) < p * n = mod-lt o (mul-pos hp hn) in
-    div-lt-iff-lt-mul hp .1 (omega arith)
-
 -- no tick, and one tick more
 pub ticks-zero : (by : Source) (s : Setup) (c : Counting) → ticks by s 0 c ≡ noEnd c
 unfolding ticks
@@ -42,9 +36,6 @@ rests : (by : Source) (s : Setup) (c : Counting) → moves by s c ≡ false → 
 unfolding more ticked
 rests by s c h e = rw (h, add-zero)
 
-stopped-rests : (by : Source) (s : Setup) (c : Counting) (pre : ℕ) → moves by s (stopped c pre) ≡ false
-stopped-rests by s c pre = refl
-
 module _ (by : Source) (s : Setup) (c : Counting) (goes : moves by s c ≡ true) where
   low : (pre cnt e : ℕ) → 1 < pre → more by s (at c pre cnt e) ≡ at c (pre - 1) cnt e
   unfolding more ticked tick
@@ -58,7 +49,7 @@ module _ (by : Source) (s : Setup) (c : Counting) (goes : moves by s c ≡ true)
   unfolding more ticked tick
   reload e h = rw (goes, h)
 
-  stop : (e : ℕ) → s .repeats ≡ false → more by s (at c 1 1 e) ≡ record { counting = stopped c (s .p); ends = e + 1 }
+  stop : (e : ℕ) → s .repeats ≡ false → more by s (at c 1 1 e) ≡ record { counting = stopped (s .p); ends = e + 1 }
   unfolding more ticked tick
   stop e h = rw (goes, h)
 
@@ -162,11 +153,11 @@ module _ (by : Source) (s : Setup) (c : Counting) (goes : moves by s c ≡ true)
           iter-split (more by s) k (k - c .timer .prescaler - s .p * (c .timer .counter - 1)) (c .timer .prescaler + s .p * (c .timer .counter - 1)) (omega arith) (at c (c .timer .prescaler) (c .timer .counter) 0)
           ∙ ap (iter (k - c .timer .prescaler - s .p * (c .timer .counter - 1)) (more by s)) (whole by s c goes (ls .p-low) (c .timer .prescaler) (c .timer .counter) 0 (lc .prescaler-low) (lc .counter-low))
 
-      pub ticks-stops : s .repeats ≡ false → ticks by s k c ≡ record { counting = stopped c (s .p); ends = 1 }
+      pub ticks-stops : s .repeats ≡ false → ticks by s k c ≡ record { counting = stopped (s .p); ends = 1 }
       ticks-stops a =
           past-end
           ∙ ap (iter (k - c .timer .prescaler - s .p * (c .timer .counter - 1)) (more by s)) (stop by s c goes 0 a)
-          ∙ iter-fixed (more by s) _ (rests by s (stopped c (s .p)) (stopped-rests by s c (s .p)) 1) (k - c .timer .prescaler - s .p * (c .timer .counter - 1))
+          ∙ iter-fixed (more by s) _ (rests by s (stopped (s .p)) refl 1) (k - c .timer .prescaler - s .p * (c .timer .counter - 1))
 
       pub ticks-repeats : s .repeats ≡ true → (o w : ℕ) → o ≡ k - c .timer .prescaler - s .p * (c .timer .counter - 1) → w ≡ s .p * s .n
           → ticks by s k c ≡ at c (s .p - o % w % s .p) (s .n - o % w / s .p) (1 + o / w)

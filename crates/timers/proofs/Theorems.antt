@@ -1,7 +1,6 @@
 -- What the definitions promise besides. Assumes nothing.
 use mathlib.Core.Path.{_≡_, refl}
 use mathlib.Core.Bool.{and-false}
-use Rattle.timers.specs.Iter.{iter}
 use Rattle.timers.specs.Control.{setupOf, settingOf}
 use Rattle.timers.specs.Timer.{ticked}
 use Rattle.timers.specs.Clock.{both, edgeOf}

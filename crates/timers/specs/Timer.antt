@@ -15,8 +15,8 @@ use Rattle.timers.specs.declared.Ticked.{Ticked}
 abbrev pub moved : Counting → ℕ → ℕ → Counting
 moved c prescaler counter = record { timer = record { prescaler = prescaler; counter = counter }; enabled = c .enabled }
 
-abbrev pub stopped : Counting → ℕ → Counting
-stopped c prescaler = record { timer = record { prescaler = prescaler; counter = 256 }; enabled = false }
+abbrev pub stopped : ℕ → Counting
+stopped prescaler = record { timer = record { prescaler = prescaler; counter = 256 }; enabled = false }
 
 -- so far no end
 abbrev pub noEnd : Counting → Ticked
@@ -30,7 +30,7 @@ tick s c =
     (noEnd (moved c (c .timer .prescaler - 1) (c .timer .counter)))
     (pick (ltb 1 (c .timer .counter))
     (noEnd (moved c (s .p) (c .timer .counter - 1)))
-    (record { counting = pick (s .repeats) (moved c (s .p) (s .n)) (stopped c (s .p)); ends = 1 }))
+    (record { counting = pick (s .repeats) (moved c (s .p) (s .n)) (stopped (s .p)); ends = 1 }))
 
 -- the sources, told apart
 abbrev pub number : Source → ℕ

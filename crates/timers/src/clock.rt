@@ -90,7 +90,7 @@ pub fn span(c: Control, m: Moving, n: u32) -> Spanned
     tick_both(Source::Divider, s, from, k)
 }
 
-// A falling edge of P31.
+// What a falling edge of P31 does to the timers. (That it latches request 2 is said where pins are compared.)
 pub fn edge(c: Control, m: Moving) -> Spanned
     requires { ⌜ LegalMoving m ⌝ }
     ensures { λ r. ⌜ r ≡ edgeOf (settingOf c) m ⌝ }

@@ -38,8 +38,8 @@ fn moved(c: Counting, prescaler: u32, counter: u32) -> Counting
 }
 
 // After the end of a single pass.
-fn stopped(c: Counting, prescaler: u32) -> Counting
-    ensures { λ r. ⌜ r ≡ stopped c prescaler ⌝ }
+fn stopped(prescaler: u32) -> Counting
+    ensures { λ r. ⌜ r ≡ stopped prescaler ⌝ }
 {
     let timer = Timer {
         prescaler,
@@ -73,7 +73,8 @@ fn down(c: Counting, p: u32, rounds: u32, r: u32) -> Counting
     moved(c, prescaler, counter)
 }
 
-// k ticks from there, by division.
+// k ticks from there, by division. They move nothing; or stay within this round of the prescaler; or within this count; or pass
+// its end, and the timer stops, or goes on from N in whole counts and a part of one.
 pub fn advance(by: Source, s: Setup, c: Counting, k: u32) -> Ticked
     requires { ⌜ LegalSetup s ⌝ }
     requires { ⌜ LegalCounting c ⌝ }
@@ -105,7 +106,7 @@ pub fn advance(by: Source, s: Setup, c: Counting, k: u32) -> Ticked
         return Ticked { counting, ends: 0 };
     }
     if !repeats {
-        let counting = stopped(c, p);
+        let counting = stopped(p);
         return Ticked { counting, ends: 1 };
     }
     let over = gone - left;
