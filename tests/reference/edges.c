@@ -1,4 +1,4 @@
-/* 01's edges, by the reference: what crates/examples/stdout has to be. The spans are taken cycle by cycle. */
+/* The longest span, by the reference: what crates/examples/stdout has to be. It is taken cycle by cycle. */
 #include <stdio.h>
 #include "timers.h"
 

@@ -1,4 +1,5 @@
--- 01's proved examples, one list: each is a test on the definitions. Assumes nothing.
+-- 01's proved examples, one list: each is a test on the definitions. Those of DJNZ and of IPR join it with the rooms that say what
+-- they are about. Assumes nothing.
 use Prim.Native.Nat.{ℕ}
 use mathlib.Core.Bool.{Bool, true, false, _&&_}
 use mathlib.Core.List.{List, [], _∷_}
@@ -12,7 +13,7 @@ use Rattle.alu.specs.Arithmetic.{addOf, subOf, incOf, decwOf}
 use Rattle.alu.specs.Logical.{andOf}
 use Rattle.alu.specs.Rotate.{rlOf, sraOf}
 use Rattle.alu.specs.Decimal.{daOf}
-use Rattle.timers.specs.Control.{settingOf}
+use Rattle.timers.specs.Control.{settingOf, kept}
 use Rattle.timers.specs.Clock.{written, cycles}
 use Rattle.timers.specs.declared.Control.{Control}
 use Rattle.timers.specs.declared.Counting.{Counting}
@@ -34,13 +35,22 @@ resting = record { timer = record { prescaler = 64; counter = 256 }; enabled = f
 abbrev pub restingAt : ℕ → Moving
 restingAt divider = record { divider = divider; t0 = resting; t1 = resting; lines = record { irq = 0; tout = true } }
 
--- these bytes in PRE0 and T0, and 03 written to TMR: T0 loaded and enabled
-abbrev pub loading : ℕ → ℕ → Control
-loading pre0 t0 = record { tmr = 0x03; t1 = 0; pre1 = 0; t0 = t0; pre0 = pre0; port3 = 0xFF }
+-- these bytes in TMR, PRE0 and T0
+abbrev pub registers : ℕ → ℕ → ℕ → Control
+registers tmr pre0 t0 = record { tmr = tmr; t1 = 0; pre1 = 0; t0 = t0; pre0 = pre0; port3 = 0xFF }
+
+-- a fresh load: 03 written to TMR loads T0 and enables it
+abbrev pub freshLoad : ℕ → ℕ → ℕ → Moving
+freshLoad divider pre0 t0 = written (registers 0x03 pre0 t0) (restingAt divider)
 
 -- T0's ends in n cycles after that
 abbrev pub endsIn : ℕ → ℕ → ℕ → ℕ → ℕ
-endsIn divider pre0 t0 n = cycles (settingOf (loading pre0 t0)) n (written (loading pre0 t0) (restingAt divider)) .ends0
+endsIn divider pre0 t0 n = cycles (settingOf (registers (kept 0x03) pre0 t0)) n (freshLoad divider pre0 t0) .ends0
+
+-- every test holds
+abbrev pub all : List Bool → Bool
+all [] = true
+all (b ∷ bs) = b && all bs
 
 -- Of the FLAGS byte before (the second argument of `after` and `adjusts`), each flag that 01 gives is the opposite of what it
 -- becomes. PRE0 0D is P 3, repeating; 01 is P 64, repeating; T0 00 is N 256.

@@ -1,5 +1,5 @@
-// 01's examples: those that are proved stand in specs/Examples.antt as one list; those that are run, and the edges, are run here.
-// What this program writes has to be what the independent program in tests/reference writes.
+// 01's examples: those that are proved stand in specs/Examples.antt as one list. Of the edges to run, this program runs the longest
+// span. What it writes has to be what the independent program tests/reference/edges.c writes.
 use libc::STDOUT_FILENO;
 use timers::Control;
 use timers::Counting;
@@ -9,6 +9,17 @@ use timers::Timer;
 ghost use mathlib.Core.Path.{_≡_};
 ghost use Prim.Native.Nat.{_<_};
 ghost use Rattle.examples.specs.Examples.{resting};
+
+fn line(divider: u32, ends0: u32, ends1: u32) {
+    io::write_all(STDOUT_FILENO, b"P 1, N 1, fresh load, ");
+    io::write_all(STDOUT_FILENO, b"4294967295 cycles from divider ");
+    io::print_decimal(STDOUT_FILENO, divider as u64);
+    io::write_all(STDOUT_FILENO, b": ends of T0 ");
+    io::print_decimal(STDOUT_FILENO, ends0 as u64);
+    io::write_all(STDOUT_FILENO, b", of T1 ");
+    io::print_decimal(STDOUT_FILENO, ends1 as u64);
+    io::write_all(STDOUT_FILENO, b"\n");
+}
 
 // A timer as after a reset.
 fn resting() -> Counting
@@ -46,17 +57,10 @@ fn longest_span(divider: u32)
         port3: 0xFF,
     };
     let loaded = timers::clock::write_tmr(c, before);
-    let x = timers::clock::span(c, loaded, 4294967295);
-    io::write_all(
-        STDOUT_FILENO,
-        b"P 1, N 1, fresh load, 4294967295 cycles from divider ",
-    );
-    io::print_decimal(STDOUT_FILENO, divider as u64);
-    io::write_all(STDOUT_FILENO, b": ends of T0 ");
-    io::print_decimal(STDOUT_FILENO, x.ends0 as u64);
-    io::write_all(STDOUT_FILENO, b", of T1 ");
-    io::print_decimal(STDOUT_FILENO, x.ends1 as u64);
-    io::write_all(STDOUT_FILENO, b"\n");
+    let mut held = c;
+    held.tmr = timers::registers::kept(c.tmr);
+    let x = timers::clock::span(held, loaded, 4294967295);
+    line(divider, x.ends0, x.ends1);
 }
 
 fn main() {

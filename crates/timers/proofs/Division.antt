@@ -6,7 +6,7 @@ use native.Mathlib.Nat.{add-zero, sub-zero, zero-mul, mod-lt, div-lt-iff-lt-mul,
 use native.Mathlib.Omega.{arith}
 use borrow.Author.Tests.{lt-ltb}
 use Rattle.timers.specs.Iter.{iter}
-use Rattle.timers.specs.Timer.{moved, stopped, noEnd, tick, moves, ticked, more, ticks, LegalSetup, LegalCounting}
+use Rattle.timers.specs.Timer.{countAt, stopped, noEnd, tick, moves, ticked, more, ticks, LegalSetup, LegalCounting}
 use Rattle.timers.specs.declared.Source.{Source}
 use Rattle.timers.specs.declared.Setup.{Setup}
 use Rattle.timers.specs.declared.Counting.{Counting}
@@ -15,7 +15,7 @@ use Rattle.timers.proofs.Iterate.{iter-zero, iter-suc, iter-split, iter
 
 -- the timer at other counts, with `e` ends behind it
 abbrev pub at : Counting → ℕ → ℕ → ℕ → Ticked
-at c pre cnt e = record { counting = moved c pre cnt; ends = e }
+at c pre cnt e = record { counting = countAt c pre cnt; ends = e }
 
 -- a first round and the rest of `n` rounds (`omega` multiplies out, but not a difference inside a product)
 first-round : (p n : ℕ) → 0 < n → p + p * (n - 1) ≡ p * n
@@ -31,7 +31,7 @@ pub ticks-suc : (by : Source) (s : Setup) (k : ℕ) (c : Counting) → ticks by 
 unfolding ticks
 ticks-suc by s k c = iter-suc (more by s) k (noEnd c)
 
--- A tick, by cases: `tick` is opened in these five alone.
+-- A tick, by cases.
 rests : (by : Source) (s : Setup) (c : Counting) → moves by s c ≡ false → (e : ℕ) → more by s (record { counting = c; ends = e }) ≡ record { counting = c; ends = e }
 unfolding more ticked
 rests by s c h e = rw (h, add-zero)
@@ -102,11 +102,11 @@ module _ (by : Source) (s : Setup) (c : Counting) (goes : moves by s c ≡ true)
 
     module _ (repeats : s .repeats ≡ true) (n-low : 0 < s .n) where
       -- whole counts of a repeating timer
-      rounds : (q e : ℕ) → iter (q * (s .p * s .n)) (more by s) (at c (s .p) (s .n) e) ≡ at c (s .p) (s .n) (e + q)
-      rounds zero e = rw (zero-mul, iter-zero, add-zero)
-      rounds (suc q) e =
+      counts : (q e : ℕ) → iter (q * (s .p * s .n)) (more by s) (at c (s .p) (s .n) e) ≡ at c (s .p) (s .n) (e + q)
+      counts zero e = rw (zero-mul, iter-zero, add-zero)
+      counts (suc q) e =
           iter-split (more by s) (suc q * (s .p * s .n)) (s .p + s .p * (s .n - 1)) (q * (s .p * s .n)) (omega (arith, first-round (s .p) (s .n) n-low)) (at c (s .p) (s .n) e)
-          ∙ ap (iter (s .p + s .p * (s .n - 1)) (more by s)) (rounds q e)
+          ∙ ap (iter (s .p + s .p * (s .n - 1)) (more by s)) (counts q e)
           ∙ whole (s .p) (s .n) (e + q) p-low n-low
           ∙ reload (e + q) repeats
           ∙ ap (at c (s .p) (s .n)) (omega arith)
@@ -116,7 +116,7 @@ module _ (by : Source) (s : Setup) (c : Counting) (goes : moves by s c ≡ true)
           ≡ at c (s .p - k % (s .p * s .n) % s .p) (s .n - k % (s .p * s .n) / s .p) (e + k / (s .p * s .n))
       fresh k e =
           iter-split (more by s) k (k % (s .p * s .n)) (k / (s .p * s .n) * (s .p * s .n)) (sym (mod-add-div' k (s .p * s .n))) (at c (s .p) (s .n) e)
-          ∙ ap (iter (k % (s .p * s .n)) (more by s)) (rounds (k / (s .p * s .n)) e)
+          ∙ ap (iter (k % (s .p * s .n)) (more by s)) (counts (k / (s .p * s .n)) e)
           ∙ part (k % (s .p * s .n)) (s .n) (e + k / (s .p * s .n)) (mod-lt k (mul-pos p-low n-low))
 
 -- What the ticks of a legal timer come to, by cases: what the code does.

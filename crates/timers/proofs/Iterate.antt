@@ -1,5 +1,4 @@
--- Laws of a function done so many times. `iter` is opened here alone: a proof that goes by these laws keeps it shut.
--- Assumes nothing.
+-- Laws of a function done so many times: a proof that goes by these keeps `iter` shut. Assumes nothing.
 use mathlib.Core.Path.{_≡_, refl, ap, sym, _∙_}
 use Prim.Native.Nat.{ℕ, zero, suc, _+_}
 use native.Mathlib.Nat.{zero-add, suc-add, add-comm}

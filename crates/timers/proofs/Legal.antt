@@ -10,8 +10,8 @@ use lib.Bits.{bitAnd}
 use borrow.Author.Tests.{lt-ltb, le-ltb, eqb-false}
 use Rattle.word.specs.Fields.{bitOf}
 use Rattle.word.proofs.Computed.{by-test, agree}
-use Rattle.timers.specs.Control.{orHighest, setupOf, settingOf, kept}
-use Rattle.timers.specs.Timer.{tick, moves, ticked, loaded, LegalSetup, LegalCounting}
+use Rattle.timers.specs.Control.{orHighest, setupOf, settingOf, kept, Bytes}
+use Rattle.timers.specs.Timer.{tick, moves, ticked, timerWritten, LegalSetup, LegalCounting}
 use Rattle.timers.specs.Clock.{both, cycle, cycles, begun, atDivider, endOf, edgeOf, written, LegalSetting, LegalMoving}
 use Rattle.timers.specs.declared.Control.{Control}
 use Rattle.timers.specs.declared.Source.{Source}
@@ -35,10 +35,10 @@ highest-high : (top field : ℕ) → field ≤ top → orHighest top field ≤ t
 unfolding orHighest
 highest-high top field h = by-test (λ (x : ℕ). x ≤ top) (eqb field 0) (λ e. le-refl top) (λ e. h)
 
-setup-legal : (pre start request : ℕ) (source : Source) (drives : Bool) → pre < 256 → start < 256 → request < 6
-    → LegalSetup (setupOf pre start source request drives)
+setup-legal : (pre start request : ℕ) (divider edges drives : Bool) → pre < 256 → start < 256 → request < 6
+    → LegalSetup (setupOf pre start divider edges request drives)
 unfolding setupOf
-setup-legal pre start request source drives hp hs hr =
+setup-legal pre start request divider edges drives hp hs hr =
     record {
       p-low = highest-low 64 (pre / 4) (omega arith);
       p-high = highest-high 64 (pre / 4) (omega arith);
@@ -47,12 +47,12 @@ setup-legal pre start request source drives hp hs hr =
       request-high = hr;
     }
 
-pub setting-legal : (c : Control) → c .pre0 < 256 → c .t0 < 256 → c .pre1 < 256 → c .t1 < 256 → LegalSetting (settingOf c)
+pub setting-legal : (c : Control) → Bytes c → LegalSetting (settingOf c)
 unfolding settingOf
-setting-legal c p0 n0 p1 n1 =
+setting-legal c b =
     record {
-      setup0 = setup-legal (c .pre0) (c .t0) 4 _ _ p0 n0 (omega arith);
-      setup1 = setup-legal (c .pre1) (c .t1) 5 _ _ p1 n1 (omega arith);
+      setup0 = setup-legal (c .pre0) (c .t0) 4 _ _ _ (b .pre0-byte) (b .t0-byte) (omega arith);
+      setup1 = setup-legal (c .pre1) (c .t1) 5 _ _ _ (b .pre1-byte) (b .t1-byte) (omega arith);
     }
 
 module _ (s : Setup) (ls : LegalSetup s) where
@@ -103,18 +103,19 @@ module _ (s : Setting) (ls : LegalSetting s) where
   unfolding edgeOf
   edge-legal m l = both-legal Edges (begun m) l
 
-loaded-legal : (s : Setup) (load enable : Bool) (c : Counting) → LegalSetup s → LegalCounting c → LegalCounting (loaded s load enable c)
-unfolding loaded
-loaded-legal s true enable c ls lc = omega (arith, ls .p-low, ls .p-high, ls .n-low, ls .n-high)
-loaded-legal s false enable c ls lc = omega (arith, lc .prescaler-low, lc .prescaler-high, lc .counter-low, lc .counter-high)
+timer-written-legal : (s : Setup) (load enable : Bool) (c : Counting) → LegalSetup s → LegalCounting c → LegalCounting (timerWritten s load enable c)
+unfolding timerWritten
+timer-written-legal s true enable c ls lc = omega (arith, ls .p-low, ls .p-high, ls .n-low, ls .n-high)
+timer-written-legal s false enable c ls lc = omega (arith, lc .prescaler-low, lc .prescaler-high, lc .counter-low, lc .counter-high)
 
-pub written-legal : (c : Control) (m : Moving) → LegalSetting (settingOf c) → LegalMoving m → LegalMoving (written c m)
+pub written-legal : (c : Control) (m : Moving) → Bytes c → LegalMoving m → LegalMoving (written c m)
 unfolding written
-written-legal c m ls l =
+written-legal c m b l =
+    let ls = setting-legal c b in
     record {
       divider-high = l .divider-high;
-      counting0 = loaded-legal (settingOf c .t0) _ _ (m .t0) (ls .setup0) (l .counting0);
-      counting1 = loaded-legal (settingOf c .t1) _ _ (m .t1) (ls .setup1) (l .counting1);
+      counting0 = timer-written-legal (settingOf c .t0) _ _ (m .t0) (ls .setup0) (l .counting0);
+      counting1 = timer-written-legal (settingOf c .t1) _ _ (m .t1) (ls .setup1) (l .counting1);
       irq-high = l .irq-high;
     }
 

@@ -5,16 +5,12 @@ use Prim.Native.Nat.{ℕ, _+_, _%_}
 use native.Mathlib.Nat.{zero-add, add-comm, add-right-comm}
 use lib.Dec.{eqb}
 use Rattle.timers.specs.Iter.{iter}
-use Rattle.timers.specs.Clock.{both, cycle, cycles, begun, atDivider}
+use Rattle.timers.specs.Clock.{both, cycle, cycles, begun, atDivider, added}
 use Rattle.timers.specs.declared.Source.the-variants.{Divider}
 use Rattle.timers.specs.declared.Setting.{Setting}
 use Rattle.timers.specs.declared.Moving.{Moving}
 use Rattle.timers.specs.declared.Spanned.{Spanned}
 use Rattle.timers.proofs.Iterate.{iter-split, iter-past}
-
--- the same with ends added
-abbrev pub added : Spanned → ℕ → ℕ → Spanned
-added x e0 e1 = record { now = x .now; ends0 = x .ends0 + e0; ends1 = x .ends1 + e1 }
 
 module _ (s : Setting) (e0 e1 : ℕ) where
   both-added : (x : Spanned) → both Divider s (added x e0 e1) ≡ added (both Divider s x) e0 e1

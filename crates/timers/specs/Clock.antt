@@ -7,7 +7,7 @@ use Rattle.word.specs.Choose.{pick}
 use Rattle.timers.specs.Iter.{iter}
 use Rattle.timers.specs.Requests.{latch}
 use Rattle.timers.specs.Control.{load0, enable0, load1, enable1, settingOf}
-use Rattle.timers.specs.Timer.{ticked, loaded, LegalSetup, LegalCounting}
+use Rattle.timers.specs.Timer.{ticked, timerWritten, LegalSetup, LegalCounting}
 use Rattle.timers.specs.declared.Control.{Control}
 use Rattle.timers.specs.declared.Source.{Source}
 use Rattle.timers.specs.declared.Source.the-variants.{Divider, Edges}
@@ -26,7 +26,7 @@ flips drives tout = pick drives (not tout) tout
 unfoldable pub endOf : Setup → Lines → Lines
 endOf s l = record { irq = latch (s .request) (l .irq); tout = flips (s .drives) (l .tout) }
 
--- one tick from there for both timers; each that ends does what its end does
+-- one tick from this source for both timers; each that ends, once, does what its end does
 unfoldable pub both : Source → Setting → Spanned → Spanned
 both by s x =
     let a0 = ticked by (s .t0) (x .now .t0) in
@@ -57,7 +57,7 @@ cycle s x =
 abbrev pub begun : Moving → Spanned
 begun m = record { now = m; ends0 = 0; ends1 = 0 }
 
--- n cycles, one by one, with each timer's ends counted
+-- n cycles, one by one, with each timer's ends counted. "A span is any count from 0 to 4,294,967,295. It compares no pins".
 unfoldable pub cycles : Setting → ℕ → Moving → Spanned
 cycles s n m = iter n (cycle s) (begun m)
 
@@ -65,34 +65,39 @@ cycles s n m = iter n (cycle s) (begun m)
 unfoldable pub edgeOf : Setting → Moving → Spanned
 edgeOf s m = both Edges s (begun m)
 
--- T_OUT after a write to TMR: it "sets T_OUT to 1 if the byte written chooses that timer", where it loads the timer
-unfoldable pub setAtLoad : Setup → Bool → Bool → Bool
-setAtLoad s load tout = (load && s .drives) || tout
+-- T_OUT after a write to TMR. One that loads the timer "sets T_OUT to 1 if the byte written chooses that timer".
+unfoldable pub toutWritten : Setup → Bool → Bool → Bool
+toutWritten s load tout = (load && s .drives) || tout
 
--- a write to TMR, c .tmr being the byte written. "The divider isn't touched."
+-- a write to TMR, c .tmr being the byte written; what TMR then holds is `kept` of it. "The divider isn't touched."
 unfoldable pub written : Control → Moving → Moving
 written c m =
     let s = settingOf c in
     let v = c .tmr in
     record {
       divider = m .divider;
-      t0 = loaded (s .t0) (load0 v) (enable0 v) (m .t0);
-      t1 = loaded (s .t1) (load1 v) (enable1 v) (m .t1);
-      lines = record { irq = m .lines .irq; tout = setAtLoad (s .t1) (load1 v) (setAtLoad (s .t0) (load0 v) (m .lines .tout)) };
+      t0 = timerWritten (s .t0) (load0 v) (enable0 v) (m .t0);
+      t1 = timerWritten (s .t1) (load1 v) (enable1 v) (m .t1);
+      lines = record { irq = m .lines .irq; tout = toutWritten (s .t1) (load1 v) (toutWritten (s .t0) (load0 v) (m .lines .tout)) };
     }
 
--- Legal: "divider 0 to 3", the counts in range, IRQ's bits 6 and 7 zero
+-- what the registers can say of both timers
 pub record LegalSetting (s : Setting) : Type 0 where
   pub setup0 : LegalSetup (s .t0)
   pub setup1 : LegalSetup (s .t1)
 
+-- 01's legal machine, as far as cycles move it: "divider 0 to 3", the counts in range, "bits [..] 6 and 7 of IRQ" zero. (T_OUT is 0 or
+-- 1 by its type.)
 pub record LegalMoving (m : Moving) : Type 0 where
   pub divider-high : m .divider < 4
   pub counting0 : LegalCounting (m .t0)
   pub counting1 : LegalCounting (m .t1)
   pub irq-high : m .lines .irq < 64
 
--- The closed formula speaks of either timer.
+-- For the theorems. The same with ends added; and either timer's part, as the closed formula speaks of either.
+abbrev pub added : Spanned → ℕ → ℕ → Spanned
+added x e0 e1 = record { now = x .now; ends0 = x .ends0 + e0; ends1 = x .ends1 + e1 }
+
 pub data Which : Type 0 where
   T0 : Which
   T1 : Which
@@ -109,13 +114,13 @@ abbrev pub endsFor : Which → Spanned → ℕ
 endsFor T0 x = x .ends0
 endsFor T1 x = x .ends1
 
--- "Cycles already gone: divider + 4 x ((P - prescaler) + P x (N - counter))."
+-- "Cycles already gone: divider + 4 x ((P - prescaler) + P x (N - counter))." (Of a steady timer: `-` here stops at 0.)
 abbrev pub gone : ℕ → Setup → Counting → ℕ
 gone divider s c = divider + 4 * ((s .p - c .timer .prescaler) + s .p * (s .n - c .timer .counter))
 
--- clocked by the divider (internally, or gated and P31 held high), enabled, repeating, and its counts within its start values
+-- taking the divider's ticks (internally, or gated and P31 held high), enabled, repeating, and its counts within its start values
 pub record Steady (s : Setup) (c : Counting) : Type 0 where
-  pub clocked : s .source ≡ Divider
+  pub clocked : s .divider ≡ true
   pub enabled : c .enabled ≡ true
   pub repeating : s .repeats ≡ true
   pub prescaler-within : c .timer .prescaler ≤ s .p

@@ -1,13 +1,11 @@
 -- What the control registers F1 to F5 and P31 tell the timers (01 "The timers"; 002, R241 to R245). Assumes nothing.
-use mathlib.Core.Bool.{Bool}
-use Prim.Native.Nat.{ℕ, _/_, _%_}
+use mathlib.Core.Bool.{Bool, true, false, not, _&&_, _||_}
+use Prim.Native.Nat.{ℕ, _/_, _%_, _<_}
 use lib.Dec.{eqb}
 use lib.Bits.{bitAnd}
 use Rattle.word.specs.Choose.{pick}
 use Rattle.word.specs.Fields.{isSet}
 use Rattle.timers.specs.declared.Control.{Control}
-use Rattle.timers.specs.declared.Source.{Source}
-use Rattle.timers.specs.declared.Source.the-variants.{Divider, Edges, Nowhere}
 use Rattle.timers.specs.declared.Setup.{Setup}
 use Rattle.timers.specs.declared.Setting.{Setting}
 
@@ -15,14 +13,15 @@ use Rattle.timers.specs.declared.Setting.{Setting}
 unfoldable pub orHighest : ℕ → ℕ → ℕ
 orHighest top field = pick (eqb field 0) top field
 
--- P is in bits 7 to 2 of PRE0 or PRE1; bit 0 set is modulo-N, which is repeating, and clear is single-pass
-unfoldable pub setupOf : ℕ → ℕ → Source → ℕ → Bool → Setup
-setupOf pre start source request drives =
+-- P is in bits 7 to 2 of PRE0 or PRE1; bit 0 set is modulo-N, which is repeating, and clear is single-pass. N is the start byte.
+unfoldable pub setupOf : ℕ → ℕ → Bool → Bool → ℕ → Bool → Setup
+setupOf pre start divider edges request drives =
     record {
       p = orHighest 64 (pre / 4);
       n = orHighest 256 start;
       repeats = isSet 0 pre;
-      source = source;
+      divider = divider;
+      edges = edges;
       request = request;
       drives = drives;
     }
@@ -47,25 +46,46 @@ toutMode tmr = tmr / 64
 abbrev pub tinMode : ℕ → ℕ
 tinMode tmr = tmr / 16 % 4
 
--- "ticks while P31 is high"
-unfoldable pub gated : ℕ → Source
-gated port3 = pick (isSet 1 port3) Divider Nowhere
+-- PRE1 bit 1: T1's clock source is internal. And P31, bit 1 of Port 3, is high.
+abbrev pub internal : ℕ → Bool
+internal pre1 = isSet 1 pre1
+
+abbrev pub p31 : ℕ → Bool
+p31 port3 = isSet 1 port3
 
 -- "T1 with PRE1 bit 1 set ticks internally; clear, TMR bits 5 and 4 choose: 00 falling edges of P31, 01 ticks while P31 is high, 10
 -- and 11 no ticks yet."
-unfoldable pub sourceOf1 : ℕ → ℕ → ℕ → Source
-sourceOf1 pre1 tmr port3 =
-    pick (isSet 1 pre1) Divider (pick (eqb (tinMode tmr) 0) Edges (pick (eqb (tinMode tmr) 1) (gated port3) Nowhere))
+unfoldable pub dividerMovesT1 : Bool → ℕ → Bool → Bool
+dividerMovesT1 internal mode high = internal || (eqb mode 1 && high)
+
+unfoldable pub edgesMoveT1 : Bool → ℕ → Bool
+edgesMoveT1 internal mode = not internal && eqb mode 0
 
 -- "T0's end latches request 4, T1's request 5. The end of the timer chosen by TMR bits 7 and 6 (01 T0, 10 T1, else none) flips T_OUT."
--- T0 "is driven by the internal clock only" (002).
+-- T0 "is driven by the internal clock only" (002). "P31 is as in the last pins." And this is all that the registers do to a timer:
+-- "Writing F2 to F5 alone moves no count."
 unfoldable pub settingOf : Control → Setting
 settingOf c =
+    let mode = tinMode (c .tmr) in
     record {
-      t0 = setupOf (c .pre0) (c .t0) Divider 4 (eqb (toutMode (c .tmr)) 1);
-      t1 = setupOf (c .pre1) (c .t1) (sourceOf1 (c .pre1) (c .tmr) (c .port3)) 5 (eqb (toutMode (c .tmr)) 2);
+      t0 = setupOf (c .pre0) (c .t0) true false 4 (eqb (toutMode (c .tmr)) 1);
+      t1 =
+          setupOf
+          (c .pre1)
+          (c .t1)
+          (dividerMovesT1 (internal (c .pre1)) mode (p31 (c .port3)))
+          (edgesMoveT1 (internal (c .pre1)) mode)
+          5
+          (eqb (toutMode (c .tmr)) 2);
     }
 
 -- what a byte written to TMR leaves there: load bits 0 and 2 read back 0
 unfoldable pub kept : ℕ → ℕ
 kept v = bitAnd v 0xFA
+
+-- the registers hold bytes
+pub record Bytes (c : Control) : Type 0 where
+  pub t1-byte : c .t1 < 256
+  pub pre1-byte : c .pre1 < 256
+  pub t0-byte : c .t0 < 256
+  pub pre0-byte : c .pre0 < 256

@@ -1,19 +1,18 @@
 -- One timer, T0 or T1 alike (01 "The timers"; 004 11.3). Assumes nothing.
 use mathlib.Core.Bool.{Bool, false, _&&_}
 use Prim.Native.Nat.{ℕ, _+_, _-_, _/_, _%_, _≤_, _<_}
-use lib.Dec.{eqb, ltb}
+use lib.Dec.{ltb}
 use Rattle.word.specs.Choose.{pick}
 use Rattle.timers.specs.Iter.{iter}
 use Rattle.timers.specs.declared.Source.{Source}
-use Rattle.timers.specs.declared.Source.the-variants.{Divider, Edges, Nowhere}
+use Rattle.timers.specs.declared.Source.the-variants.{Divider, Edges}
 use Rattle.timers.specs.declared.Setup.{Setup}
 use Rattle.timers.specs.declared.Counting.{Counting}
 use Rattle.timers.specs.declared.Ticked.{Ticked}
 
--- the count moved on, and after the end of a single pass: "counter 256 and enable bit cleared (HOUSE)". What else a count in
--- progress may come to hold is said in these two alone.
-abbrev pub moved : Counting → ℕ → ℕ → Counting
-moved c prescaler counter = record { timer = record { prescaler = prescaler; counter = counter }; enabled = c .enabled }
+-- the count at other numbers, and after the end of a single pass. These two and `timerWritten` alone make a count in progress.
+abbrev pub countAt : Counting → ℕ → ℕ → Counting
+countAt c prescaler counter = record { timer = record { prescaler = prescaler; counter = counter }; enabled = c .enabled }
 
 abbrev pub stopped : ℕ → Counting
 stopped prescaler = record { timer = record { prescaler = prescaler; counter = 256 }; enabled = false }
@@ -27,38 +26,27 @@ noEnd c = record { counting = c; ends = 0 }
 unfoldable pub tick : Setup → Counting → Ticked
 tick s c =
     pick (ltb 1 (c .timer .prescaler))
-    (noEnd (moved c (c .timer .prescaler - 1) (c .timer .counter)))
+    (noEnd (countAt c (c .timer .prescaler - 1) (c .timer .counter)))
     (pick (ltb 1 (c .timer .counter))
-    (noEnd (moved c (s .p) (c .timer .counter - 1)))
-    (record { counting = pick (s .repeats) (moved c (s .p) (s .n)) (stopped (s .p)); ends = 1 }))
+    (noEnd (countAt c (s .p) (c .timer .counter - 1)))
+    (record { counting = pick (s .repeats) (countAt c (s .p) (s .n)) (stopped (s .p)); ends = 1 }))
 
--- the sources, told apart
-abbrev pub number : Source → ℕ
-number Nowhere = 0
-number Divider = 1
-number Edges = 2
+-- whether the timer takes ticks from this source
+abbrev pub takes : Source → Setup → Bool
+takes Divider s = s .divider
+takes Edges s = s .edges
 
--- whether a tick from there moves the timer: it is enabled, and its ticks come from there
+-- whether a tick from this source moves the timer: it is enabled and takes it
 abbrev pub moves : Source → Setup → Counting → Bool
-moves by s c = c .enabled && eqb (number by) (number (s .source))
+moves by s c = c .enabled && takes by s
 
--- a tick from there, whether or not it moves the timer
+-- a tick from this source, whether or not it moves the timer: `ends` is 0 or 1
 unfoldable pub ticked : Source → Setup → Counting → Ticked
 ticked by s c = pick (moves by s c) (tick s c) (noEnd c)
 
--- one more, its end counted
-unfoldable pub more : Source → Setup → Ticked → Ticked
-more by s a =
-    let b = ticked by s (a .counting) in
-    record { counting = b .counting; ends = a .ends + b .ends }
-
--- k of them, one by one
-unfoldable pub ticks : Source → Setup → ℕ → Counting → Ticked
-ticks by s k c = iter k (more by s) (noEnd c)
-
--- "Writing a load bit copies P and N": a byte written to TMR, by its load bit and its enable bit of this timer
-unfoldable pub loaded : Setup → Bool → Bool → Counting → Counting
-loaded s load enable c =
+-- "Writing a load bit copies P and N": what a byte written to TMR makes of the timer, by its load bit and its enable bit
+unfoldable pub timerWritten : Setup → Bool → Bool → Counting → Counting
+timerWritten s load enable c =
     record { timer = pick load (record { prescaler = s .p; counter = s .n }) (c .timer); enabled = enable }
 
 -- "prescalers 1 to 64", counters 1 to 256, start values alike; requests 0 to 5
@@ -75,6 +63,15 @@ pub record LegalCounting (c : Counting) : Type 0 where
   pub counter-low : 0 < c .timer .counter
   pub counter-high : c .timer .counter ≤ 256
 
--- For an inner contract alone: a count of so many whole rounds of the prescaler, r ticks later.
+-- For the contracts of the move by division alone: one tick more, its end counted; k ticks; and a count of so many whole rounds of
+-- the prescaler, r ticks later.
+unfoldable pub more : Source → Setup → Ticked → Ticked
+more by s a =
+    let b = ticked by s (a .counting) in
+    record { counting = b .counting; ends = a .ends + b .ends }
+
+unfoldable pub ticks : Source → Setup → ℕ → Counting → Ticked
+ticks by s k c = iter k (more by s) (noEnd c)
+
 abbrev pub down : Counting → ℕ → ℕ → ℕ → Counting
-down c p rounds r = moved c (p - r % p) (rounds - r / p)
+down c p rounds r = countAt c (p - r % p) (rounds - r / p)

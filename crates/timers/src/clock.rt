@@ -12,7 +12,7 @@ ghost use Rattle.timers.specs.Iter.{iter};
 ghost use Rattle.timers.specs.Requests.{latch};
 ghost use Rattle.timers.specs.Control.{settingOf};
 ghost use Rattle.timers.specs.Timer.{LegalSetup};
-ghost use Rattle.timers.specs.Clock.{flips, endOf, both, begun, cycles, edgeOf, setAtLoad, written, LegalSetting, LegalMoving};
+ghost use Rattle.timers.specs.Clock.{flips, endOf, both, begun, cycles, edgeOf, toutWritten, written, LegalSetting, LegalMoving};
 
 // IRQ after e ends that latch request n.
 fn raised(n: u8, irq: u8, e: u32) -> u8
@@ -46,7 +46,7 @@ fn ended(s: Setup, l: Lines, e: u32) -> Lines
     Lines { irq, tout }
 }
 
-// k ticks from there, for both timers.
+// k ticks from this source, for both timers.
 fn tick_both(by: Source, s: Setting, m: Moving, k: u32) -> Spanned
     requires { ⌜ LegalSetting s ⌝ }
     requires { ⌜ LegalMoving m ⌝ }
@@ -90,7 +90,7 @@ pub fn span(c: Control, m: Moving, n: u32) -> Spanned
     tick_both(Source::Divider, s, from, k)
 }
 
-// What a falling edge of P31 does to the timers. (That it latches request 2 is said where pins are compared.)
+// What a falling edge of P31 does to the timers. (Request 2 is no matter of theirs.)
 pub fn edge(c: Control, m: Moving) -> Spanned
     requires { ⌜ LegalMoving m ⌝ }
     ensures { λ r. ⌜ r ≡ edgeOf (settingOf c) m ⌝ }
@@ -100,8 +100,8 @@ pub fn edge(c: Control, m: Moving) -> Spanned
 }
 
 // The T_OUT level after a write that loads the timer, or doesn't.
-fn set_at_load(s: Setup, load: bool, tout: bool) -> bool
-    ensures { λ r. ⌜ r ≡ setAtLoad s load tout ⌝ }
+fn tout_written(s: Setup, load: bool, tout: bool) -> bool
+    ensures { λ r. ⌜ r ≡ toutWritten s load tout ⌝ }
 {
     let drives = s.drives;
     if load {
@@ -111,7 +111,7 @@ fn set_at_load(s: Setup, load: bool, tout: bool) -> bool
     }
 }
 
-// What a write to TMR does: c.tmr is the byte written. `kept` says what TMR then holds.
+// What a write to TMR does to all but TMR itself, c.tmr being the byte written; `registers::kept` is what TMR then holds.
 pub fn write_tmr(c: Control, m: Moving) -> Moving
     ensures { λ r. ⌜ r ≡ written c m ⌝ }
 {
@@ -126,10 +126,10 @@ pub fn write_tmr(c: Control, m: Moving) -> Moving
     let enable0 = word::is_set(1, v);
     let load1 = word::is_set(2, v);
     let enable1 = word::is_set(3, v);
-    let t0 = crate::ticks::loaded(s0, load0, enable0, c0);
-    let t1 = crate::ticks::loaded(s1, load1, enable1, c1);
-    let first = set_at_load(s0, load0, lines.tout);
-    let second = set_at_load(s1, load1, first);
+    let t0 = crate::ticks::timer_written(s0, load0, enable0, c0);
+    let t1 = crate::ticks::timer_written(s1, load1, enable1, c1);
+    let first = tout_written(s0, load0, lines.tout);
+    let second = tout_written(s1, load1, first);
     let after = Lines {
         irq: lines.irq,
         tout: second,

@@ -5,8 +5,8 @@ pub mod registers;
 pub mod requests;
 mod ticks;
 
-// All that the timers read: the control registers F1 to F5 in address order, and the pins of Port 3. Of TMR the cycles read the
-// modes alone; the enable bits, which an end may clear, are with what moves.
+// All that the timers read: the control registers F1 to F5 in address order, and the last Port 3 pins. Of TMR the cycles read the
+// modes alone; its enable bits, which an end may clear, are with what moves, and are put back into TMR's place by who keeps it.
 pub struct Control {
     pub tmr: u8,
     pub t1: u8,
@@ -16,20 +16,20 @@ pub struct Control {
     pub port3: u8,
 }
 
-// Where a timer's ticks come from: the divider, falling edges of P31, or nowhere.
+// Where a tick comes from: the divider, or the falling edges of P31.
 pub enum Source {
     Divider,
     Edges,
-    Nowhere,
 }
 
-// What a timer's ticks read: start values P and N, whether it repeats, where the ticks come from, which request its end
-// latches, and whether its end flips T_OUT.
+// What a timer's ticks read: start values P and N, whether it repeats, whether it takes the divider's ticks and those of edges,
+// which request its end latches, and whether its end flips T_OUT.
 pub struct Setup {
     pub p: u32,
     pub n: u32,
     pub repeats: bool,
-    pub source: Source,
+    pub divider: bool,
+    pub edges: bool,
     pub request: u8,
     pub drives: bool,
 }
@@ -39,13 +39,13 @@ pub struct Setting {
     pub t1: Setup,
 }
 
-// A count in progress: the prescaler 1 to 64, the counter 1 to 256.
+// A count in progress, which is a machine's timer record: the prescaler 1 to 64, the counter 1 to 256.
 pub struct Timer {
     pub prescaler: u32,
     pub counter: u32,
 }
 
-// The same with the timer's enable bit.
+// The same with the timer's enable bit, which stands in TMR.
 pub struct Counting {
     pub timer: Timer,
     pub enabled: bool,

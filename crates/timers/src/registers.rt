@@ -2,19 +2,18 @@
 use crate::Control;
 use crate::Setting;
 use crate::Setup;
-use crate::Source;
 ghost use mathlib.Core.Path.{_≡_};
-ghost use Rattle.timers.specs.Control.{orHighest, setupOf, gated, sourceOf1, settingOf, kept};
+ghost use Rattle.timers.specs.Control.{orHighest, setupOf, dividerMovesT1, edgesMoveT1, settingOf, kept};
 
-// A count whose field 0 stands for the highest.
-fn or_highest(top: u32, field: u8) -> u32
+// A count whose field 0 stands for the highest: a prescaler field, a start byte, a saved counter.
+pub fn or_highest(top: u32, field: u8) -> u32
     ensures { λ r. ⌜ r ≡ orHighest top field ⌝ }
 {
     if field == 0 { top } else { field as u32 }
 }
 
-fn setup(pre: u8, start: u8, source: Source, request: u8, drives: bool) -> Setup
-    ensures { λ r. ⌜ r ≡ setupOf pre start source request drives ⌝ }
+fn setup(pre: u8, start: u8, divider: bool, edges: bool, request: u8, drives: bool) -> Setup
+    ensures { λ r. ⌜ r ≡ setupOf pre start divider edges request drives ⌝ }
 {
     let p = or_highest(64, pre / 4);
     let n = or_highest(256, start);
@@ -23,39 +22,23 @@ fn setup(pre: u8, start: u8, source: Source, request: u8, drives: bool) -> Setup
         p,
         n,
         repeats,
-        source,
+        divider,
+        edges,
         request,
         drives,
     }
 }
 
-// The divider while P31 is high.
-fn gated(port3: u8) -> Source
-    ensures { λ r. ⌜ r ≡ gated port3 ⌝ }
+fn divider_moves_t1(internal: bool, mode: u8, high: bool) -> bool
+    ensures { λ r. ⌜ r ≡ dividerMovesT1 internal mode high ⌝ }
 {
-    let high = word::is_set(1, port3);
-    if high {
-        Source::Divider
-    } else {
-        Source::Nowhere
-    }
+    internal || (mode == 1 && high)
 }
 
-fn source_of_t1(pre1: u8, tmr: u8, port3: u8) -> Source
-    ensures { λ r. ⌜ r ≡ sourceOf1 pre1 tmr port3 ⌝ }
+fn edges_move_t1(internal: bool, mode: u8) -> bool
+    ensures { λ r. ⌜ r ≡ edgesMoveT1 internal mode ⌝ }
 {
-    let internal = word::is_set(1, pre1);
-    if internal {
-        return Source::Divider;
-    }
-    let mode = tmr / 16 % 4;
-    if mode == 0 {
-        return Source::Edges;
-    }
-    if mode == 1 {
-        return gated(port3);
-    }
-    Source::Nowhere
+    !internal && mode == 0
 }
 
 pub fn setting(c: Control) -> Setting
@@ -64,9 +47,13 @@ pub fn setting(c: Control) -> Setting
     let tmr = c.tmr;
     let pre1 = c.pre1;
     let tout = tmr / 64;
-    let source = source_of_t1(pre1, tmr, c.port3);
-    let t0 = setup(c.pre0, c.t0, Source::Divider, 4, tout == 1);
-    let t1 = setup(pre1, c.t1, source, 5, tout == 2);
+    let mode = tmr / 16 % 4;
+    let internal = word::is_set(1, pre1);
+    let high = word::is_set(1, c.port3);
+    let divider = divider_moves_t1(internal, mode, high);
+    let edges = edges_move_t1(internal, mode);
+    let t0 = setup(c.pre0, c.t0, true, false, 4, tout == 1);
+    let t1 = setup(pre1, c.t1, divider, edges, 5, tout == 2);
     Setting { t0, t1 }
 }
 

@@ -6,31 +6,30 @@ use crate::Ticked;
 use crate::Timer;
 ghost use mathlib.Core.Path.{_≡_};
 ghost use Prim.Native.Nat.{_*_, _≤_, _<_};
-ghost use Rattle.timers.specs.Timer.{number, moves, moved, stopped, down, ticks, loaded, LegalSetup, LegalCounting};
+ghost use Rattle.timers.specs.Timer.{countAt, takes, moves, stopped, down, ticks, timerWritten, LegalSetup, LegalCounting};
 
-fn number(s: Source) -> u32
-    ensures { λ r. ⌜ r ≡ number s ⌝ }
+// Whether the timer takes ticks from this source.
+fn takes(by: Source, s: Setup) -> bool
+    ensures { λ r. ⌜ r ≡ takes by s ⌝ }
 {
-    match s {
-        Source::Nowhere => 0,
-        Source::Divider => 1,
-        Source::Edges => 2,
+    match by {
+        Source::Divider => s.divider,
+        Source::Edges => s.edges,
     }
 }
 
-// Whether a tick from there moves the timer.
+// Whether a tick from this source moves the timer.
 fn moves(by: Source, s: Setup, c: Counting) -> bool
     ensures { λ r. ⌜ r ≡ moves by s c ⌝ }
 {
-    let source = s.source;
     let enabled = c.enabled;
-    let there = number(by);
-    let own = number(source);
-    if enabled { there == own } else { false }
+    let taken = takes(by, s);
+    enabled && taken
 }
 
-fn moved(c: Counting, prescaler: u32, counter: u32) -> Counting
-    ensures { λ r. ⌜ r ≡ moved c prescaler counter ⌝ }
+// The count at other numbers.
+fn count_at(c: Counting, prescaler: u32, counter: u32) -> Counting
+    ensures { λ r. ⌜ r ≡ countAt c prescaler counter ⌝ }
 {
     let enabled = c.enabled;
     let timer = Timer { prescaler, counter };
@@ -70,10 +69,10 @@ fn down(c: Counting, p: u32, rounds: u32, r: u32) -> Counting
     let dropped = r / p;
     let prescaler = p - turned;
     let counter = rounds - dropped;
-    moved(c, prescaler, counter)
+    count_at(c, prescaler, counter)
 }
 
-// k ticks from there, by division. They move nothing; or stay within this round of the prescaler; or within this count; or pass
+// k ticks from this source, by division. They move nothing; or stay within this round of the prescaler; or within this count; or pass
 // its end, and the timer stops, or goes on from N in whole counts and a part of one.
 pub fn advance(by: Source, s: Setup, c: Counting, k: u32) -> Ticked
     requires { ⌜ LegalSetup s ⌝ }
@@ -95,21 +94,21 @@ pub fn advance(by: Source, s: Setup, c: Counting, k: u32) -> Ticked
     }
     if k < prescaler {
         let fallen = prescaler - k;
-        let counting = moved(c, fallen, counter);
+        let counting = count_at(c, fallen, counter);
         return Ticked { counting, ends: 0 };
     }
     let rounds = counter - 1;
     let left = ticks_in(p, rounds);
-    let gone = k - prescaler;
-    if gone < left {
-        let counting = down(c, p, rounds, gone);
+    let past = k - prescaler;
+    if past < left {
+        let counting = down(c, p, rounds, past);
         return Ticked { counting, ends: 0 };
     }
     if !repeats {
         let counting = stopped(p);
         return Ticked { counting, ends: 1 };
     }
-    let over = gone - left;
+    let over = past - left;
     let whole = ticks_in(p, n);
     let rest = over % whole;
     let later = over / whole;
@@ -119,8 +118,8 @@ pub fn advance(by: Source, s: Setup, c: Counting, k: u32) -> Ticked
 }
 
 // P and N copied where the load bit was written; the enable bit as written.
-pub fn loaded(s: Setup, load: bool, enable: bool, c: Counting) -> Counting
-    ensures { λ r. ⌜ r ≡ loaded s load enable c ⌝ }
+pub fn timer_written(s: Setup, load: bool, enable: bool, c: Counting) -> Counting
+    ensures { λ r. ⌜ r ≡ timerWritten s load enable c ⌝ }
 {
     let timer = if load {
         Timer {

@@ -1,5 +1,5 @@
 // The core's answers to questions about bytes and about the timers, as a checksum for each question. What it writes has to be
-// what the independent program tests/reference writes, which shares nothing with the core.
+// what the independent program tests/reference/answers.c writes, which shares nothing with the core but the questions.
 use alu::Adjusted;
 use alu::Flags;
 use alu::Outcome;
@@ -142,11 +142,11 @@ fn asked(question: u8, i: u32) -> u32 {
         28 => cycles(false, i),
         29 => decoding(i),
         30 => encoding(i),
+        31 => opcodes::instruction::length_of((i % 256) as u8) as u32,
         32 => timing::spanned(i, 4096),
         33 => timing::spanned(i, 1048576),
         34 => timing::edged(i),
         35 => timing::written(i),
-        31 => opcodes::instruction::length_of((i % 256) as u8) as u32,
         _ => on_bytes(question, i),
     }
 }

@@ -1,4 +1,6 @@
-// Questions about the timers, each on a legal state and control registers drawn by its number.
+// Questions about the timers, each on a legal state and control registers drawn by its number. tests/reference/answers.c draws
+// the same.
+use crate::mixed;
 use timers::Control;
 use timers::Counting;
 use timers::Lines;
@@ -76,10 +78,6 @@ fn moving(i: u32, tmr: u8) -> Moving
         t1,
         lines,
     }
-}
-
-fn mixed(h: u32, x: u32) -> u32 {
-    crate::mixed(h, x)
 }
 
 fn counted(h: u32, c: Counting) -> u32 {

@@ -18,21 +18,21 @@ is-set-requires-3 c κs = search needs
 is-set-requires-4 : tie.Need-is-set-requires-4
 is-set-requires-4 c κs = search needs
 
-loaded-requires : tie.Need-loaded-requires
-loaded-requires c κs = search needs
+timer-written-requires : tie.Need-timer-written-requires
+timer-written-requires c κs = search needs
 
-loaded-requires-2 : tie.Need-loaded-requires-2
-loaded-requires-2 c κs = search needs
+timer-written-requires-2 : tie.Need-timer-written-requires-2
+timer-written-requires-2 c κs = search needs
 
-set-at-load-requires : tie.Need-set-at-load-requires
-set-at-load-requires c κs = search needs
+tout-written-requires : tie.Need-tout-written-requires
+tout-written-requires c κs = search needs
 
-set-at-load-requires-2 : tie.Need-set-at-load-requires-2
-set-at-load-requires-2 c κs = search needs
+tout-written-requires-2 : tie.Need-tout-written-requires-2
+tout-written-requires-2 c κs = search needs
 
 returns : tie.Need-returns
 unfolding written
-returns c = rw (c .set-at-load2 .ensures, c .before .set-at-load .ensures, c .before .before .loaded2 .ensures, c .before .before .before .loaded .ensures, c .before .before .before .before .is-set4 .ensures, c .before .before .before .before .before .is-set3 .ensures, c .before .before .before .before .before .before .is-set2 .ensures, c .before .before .before .before .before .before .before .is-set .ensures, c .before .before .before .before .before .before .before .before .before .before .setting .ensures)
+returns c = rw (c .tout-written2 .ensures, c .before .tout-written .ensures, c .before .before .timer-written2 .ensures, c .before .before .before .timer-written .ensures, c .before .before .before .before .is-set4 .ensures, c .before .before .before .before .before .is-set3 .ensures, c .before .before .before .before .before .before .is-set2 .ensures, c .before .before .before .before .before .before .before .is-set .ensures, c .before .before .before .before .before .before .before .before .before .before .setting .ensures)
 
 pub write-tmr-spec : {M : Type 1} → statement M
 write-tmr-spec =
@@ -43,8 +43,8 @@ write-tmr-spec =
     is-set-requires-2
     is-set-requires-3
     is-set-requires-4
-    loaded-requires
-    loaded-requires-2
-    set-at-load-requires
-    set-at-load-requires-2
+    timer-written-requires
+    timer-written-requires-2
+    tout-written-requires
+    tout-written-requires-2
     returns)

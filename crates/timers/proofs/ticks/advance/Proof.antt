@@ -22,14 +22,14 @@ returns c =
 sub-fallen : tie.Need-sub-fallen
 sub-fallen c = search needs
 
-moved-requires : tie.Need-moved-requires
-moved-requires c κs = search needs
+count-at-requires : tie.Need-count-at-requires
+count-at-requires c κs = search needs
 
 returns-2 : tie.Need-returns-2
 returns-2 c =
     let a = c .before .before .before .before .before .args in
     let goes : moves (a .by) (a .s) (a .c) ≡ true = sym (c .before .before .before .moves .ensures) ∙ not-false _ (c .before .before .if1 .left) in
-    rw (c .moved .ensures) (sym (ticks-low (a .by) (a .s) (a .c) goes (a .k) (c .before .if2 .taken)))
+    rw (c .count-at .ensures) (sym (ticks-low (a .by) (a .s) (a .c) goes (a .k) (c .before .if2 .taken)))
 
 sub-rounds : tie.Need-sub-rounds
 sub-rounds c = search needs
@@ -97,7 +97,7 @@ advance-spec =
     moves-requires
     returns
     sub-fallen
-    moved-requires
+    count-at-requires
     returns-2
     sub-rounds
     ticks-in-requires

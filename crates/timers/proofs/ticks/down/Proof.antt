@@ -16,12 +16,12 @@ sub-prescaler c = le-of-lt (mod-lt _ (c .pre .0))
 sub-counter : tie.Need-sub-counter
 sub-counter c = le-of-lt (div-lt-iff-lt-mul (c .pre .0) .1 (omega (arith, c .pre .1)))
 
-moved-requires : tie.Need-moved-requires
-moved-requires c κs = search needs
+count-at-requires : tie.Need-count-at-requires
+count-at-requires c κs = search needs
 
 returns : tie.Need-returns
 returns c = search needs
 
 pub down-spec : {M : Type 1} → statement M
 down-spec =
-    tie.close (tie.spec rem-turned div-dropped sub-prescaler sub-counter moved-requires returns)
+    tie.close (tie.spec rem-turned div-dropped sub-prescaler sub-counter count-at-requires returns)
