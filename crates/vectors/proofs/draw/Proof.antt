@@ -1,6 +1,6 @@
 use borrow.Author.Needs.{needs}
-use Rattle.vectors.proofs.timing.draw.Statement.{statement}
-use Rattle.vectors.proofs.timing.draw.Tie as tie
+use Rattle.vectors.proofs.draw.Statement.{statement}
+use Rattle.vectors.proofs.draw.Tie as tie
 use Prim.Native.Nat.{_+_, _*_, _%_, _≤_}
 use native.Mathlib.Nat.{mul-le-mul}
 use native.Mathlib.Omega.{arith}

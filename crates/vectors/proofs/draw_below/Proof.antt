@@ -1,6 +1,6 @@
 use borrow.Author.Needs.{needs}
-use Rattle.vectors.proofs.timing.draw_below.Statement.{statement}
-use Rattle.vectors.proofs.timing.draw_below.Tie as tie
+use Rattle.vectors.proofs.draw_below.Statement.{statement}
+use Rattle.vectors.proofs.draw_below.Tie as tie
 use native.Mathlib.Nat.{mod-lt}
 use native.Mathlib.Omega.{arith}
 
