@@ -13,7 +13,7 @@ setting-requires c κs = search needs
 tick-both-requires : tie.Need-tick-both-requires
 tick-both-requires c κs =
     let a = c .before .args in
-    (rw (c .setting .ensures) (setting-legal (a .c) (record { t1-byte = search needs; pre1-byte = search needs; t0-byte = search needs; pre0-byte = search needs })), c .before .pre)
+    (rw (c .setting .ensures) (setting-legal (a .c) (search needs)), c .before .pre)
 
 returns : tie.Need-returns
 unfolding edgeOf

@@ -25,7 +25,7 @@ tick-both-requires c κs =
     let l = c .before .pre in
     let moved : LegalMoving (record { divider = (a .m .divider + a .n % 4) % 4; t0 = a .m .t0; t1 = a .m .t1; lines = a .m .lines }) =
     record { divider-high = omega arith; counting0 = l .counting0; counting1 = l .counting1; irq-high = l .irq-high } in
-    (rw (c .setting .ensures) (setting-legal (a .c) (record { t1-byte = search needs; pre1-byte = search needs; t0-byte = search needs; pre0-byte = search needs })), moved)
+    (rw (c .setting .ensures) (setting-legal (a .c) (search needs)), moved)
 
 returns : tie.Need-returns
 returns c =
