@@ -1,0 +1,334 @@
+-- A legal machine stays legal: each store, the stack, reset, cycles. And what registers and ports read is a byte. Assumes nothing.
+use mathlib.Core.Path.{_≡_, _∙_, refl, sym, ap}
+use mathlib.Core.Bool.{Bool, true, false, not, _&&_, _||_}
+use mathlib.Core.List.{List, [], _∷_}
+use Prim.Native.Nat.{ℕ, zero, suc, _+_, _-_, _*_, _/_, _%_, _≤_, _<_}
+use native.Mathlib.Omega.{arith}
+use borrow.Author.Tests.{ltb-true, eqb-true, lt-ltb}
+use lib.Dec.{T, eqb, ltb, leb, lit<, lit≤, ltb→lt}
+use lib.Bits.{bitAnd, bitOr, and-lt, or-lt}
+use lib.ListN.{length, getD, replicate}
+use Rattle.word.specs.Choose.{pick}
+use Rattle.word.specs.Fields.{upper, highByte, lowByte}
+use Rattle.word.specs.Words.{plus}
+use Rattle.word.proofs.Computed.{by-test, below, at, under, and-left, and-right}
+use Rattle.timers.specs.Control.{Bytes, settingOf, kept}
+use Rattle.timers.specs.Timer.{LegalCounting}
+use Rattle.timers.specs.Clock.{cycles, written, LegalSetting, LegalMoving}
+use Rattle.timers.specs.declared.Timer.{Timer}
+use Rattle.timers.specs.declared.Moving.{Moving}
+use Rattle.timers.proofs.Legal.{setting-legal, written-legal, cycles-legal}
+use Rattle.machine.specs.State.{heldIn, placedIn, held, placed}
+use Rattle.machine.specs.Ports.{masked, port0Lines, port1Lines, port2Lines, port3Lines, linesOf, portStores, portReads, pinsOf, ofPort}
+use Rattle.machine.specs.Clock.{Ran, controlWith, controlOf, movingOf, enabling, countsAt, movedTo, writeTmr, spanOf, shown}
+use Rattle.machine.specs.Registers.{isHole, isWriteOnly, portLines, readPort, writePort, readReg, writeReg}
+use Rattle.machine.specs.Addresses.{evenOf, writePair}
+use Rattle.machine.specs.Stack.{Stacked, spl, spOf, spSet, writtenFrom, pushedInside, pushedOutside, pushed, raised, isInside}
+use Rattle.machine.specs.Start.{Place, placedAll, resetPlaces, resetOf, newOf, blank, isKind, isCost}
+use Rattle.machine.specs.Legal.{mayHold, LegalFile, Legal, LegalPins}
+use Rattle.machine.specs.Memory.{listOf}
+use Rattle.machine.specs.declared.Machine.{Machine}
+use Rattle.machine.specs.declared.Bytes as bytes
+use Rattle.machine.specs.declared.Pins.{Pins}
+use Rattle.machine.specs.declared.ports.Directions.{Directions}
+use Rattle.machine.proofs.Places.{place-long, held-same, held-other, each-placed}
+use Rattle.machine.proofs.Lens.{span-is, every}
+
+-- a file with a place that holds what it may
+pub file-placed : {l : List ℕ} (a v : ℕ) → LegalFile l → a < 256 → v < 256 → T (mayHold a v) → LegalFile (placedIn l a v)
+file-placed {l} a v f h byte may =
+    record {
+      long = place-long l a v ∙ f .long;
+      bytes = each-placed (λ b w. w < 256) l a v (f .long) h byte (f .bytes);
+      places = each-placed (λ b w. T (mayHold b w)) l a v (f .long) h may (f .places);
+    }
+
+implied : (a b : Bool) → T (not a || b) → T a → T b
+implied true b u t = u
+implied false b u t = absurd t
+
+-- IRQ of a legal file is below 64
+irq-small : (v : ℕ) → v < 256 → T (mayHold 0xFA v) → v < 64
+unfolding mayHold
+irq-small v h t = ltb→lt v 64 (implied (mayHold 0xFA v) (ltb v 64) (at (λ x. not (mayHold 0xFA x) || ltb x 64) 256 tt v h) t)
+
+irq-fits : (v : ℕ) → v < 64 → T (mayHold 0xFA v)
+unfolding mayHold
+irq-fits v h = at (λ x. mayHold 0xFA x) 64 tt v h
+
+-- the enable bit is no matter of legality
+recounted : {t : Timer} {e f : Bool} → LegalCounting (record { timer = t; enabled = e }) → LegalCounting (record { timer = t; enabled = f })
+recounted l =
+    record { prescaler-low = l .prescaler-low; prescaler-high = l .prescaler-high; counter-low = l .counter-low; counter-high = l .counter-high }
+
+pub placed-legal : {m : Machine} (a v : ℕ) → Legal m → a < 256 → v < 256 → T (mayHold a v) → Legal (placed m a v)
+unfolding placed movingOf
+placed-legal a v l h byte may =
+    let f = file-placed a v (l .file) h byte may in
+    record {
+      file = f;
+      pc-word = l .pc-word;
+      moving =
+          record {
+            divider-high = l .moving .divider-high;
+            counting0 = recounted (l .moving .counting0);
+            counting1 = recounted (l .moving .counting1);
+            irq-high = irq-small _ (f .bytes 0xFA) (f .places 0xFA);
+          };
+      port3-byte = l .port3-byte;
+      kind = l .kind;
+      cost = l .cost;
+    }
+
+counts-legal : {m : Machine} (x : Moving) → Legal m → LegalMoving x → Legal (countsAt m x)
+unfolding countsAt movingOf
+counts-legal x l k =
+    record {
+      file = l .file;
+      pc-word = l .pc-word;
+      moving =
+          record {
+            divider-high = k .divider-high;
+            counting0 = recounted (k .counting0);
+            counting1 = recounted (k .counting1);
+            irq-high = l .moving .irq-high;
+          };
+      port3-byte = l .port3-byte;
+      kind = l .kind;
+      cost = l .cost;
+    }
+
+-- ---- ports
+-- bits of two bytes, by a mask of one
+masked-byte : (mask a b : ℕ) → mask < 256 → a < 256 → b < 256 → masked mask a b < 256
+unfolding masked
+masked-byte mask a b hm ha hb =
+    or-lt 8 (bitAnd mask a) (bitAnd (255 - mask) b) (and-lt 8 mask a hm ha) (and-lt 8 (255 - mask) b (omega arith) hb)
+
+-- what a port has, where each of the four has it
+of-port : {A : Type 0} (P : A → Type 0) (n : ℕ) (p0 p1 p2 p3 : A) → P p0 → P p1 → P p2 → P p3 → P (ofPort n p0 p1 p2 p3)
+of-port P n p0 p1 p2 p3 h0 h1 h2 h3 =
+    by-test P (eqb n 0) (λ t. h0) (λ t. by-test P (eqb n 1) (λ u. h1) (λ u. by-test P (eqb n 2) (λ w. h2) (λ w. h3)))
+
+pub record ByteLines (d : Directions) : Type 0 where
+  pub inputs-byte : d .inputs < 256
+  pub address-byte : d .address < 256
+
+-- a byte computed from a byte
+byte-of : (f : ℕ → ℕ) → T (below (λ x. ltb (f x) 256) 256) → (x : ℕ) → x < 256 → f x < 256
+byte-of f t x h = ltb→lt (f x) 256 (at (λ y. ltb (f y) 256) 256 t x h)
+
+lines-bytes : (p01m p2m n : ℕ) → p01m < 256 → p2m < 256 → ByteLines (linesOf p01m p2m n)
+unfolding linesOf port0Lines port1Lines port2Lines port3Lines
+lines-bytes p01m p2m n g h =
+    of-port ByteLines n (port0Lines p01m) (port1Lines p01m) (port2Lines p2m) port3Lines
+    (record { inputs-byte = byte-of (λ x. port0Lines x .inputs) tt p01m g; address-byte = byte-of (λ x. port0Lines x .address) tt p01m g })
+    (record { inputs-byte = byte-of (λ x. port1Lines x .inputs) tt p01m g; address-byte = byte-of (λ x. port1Lines x .address) tt p01m g })
+    (record { inputs-byte = h; address-byte = lit< tt })
+    (record { inputs-byte = lit< tt; address-byte = lit< tt })
+
+pins-byte : (p : Pins) (n : ℕ) → LegalPins p → pinsOf p n < 256
+unfolding pinsOf
+pins-byte p n l = of-port (λ v. v < 256) n (p .port0) (p .port1) (p .port2) (p .port3) (l .port0-byte) (l .port1-byte) (l .port2-byte) (l .port3-byte)
+
+-- what a store leaves in TMR, IRQ and RP
+kept-byte : (v : ℕ) → v < 256 → kept v < 256
+unfolding kept
+kept-byte v h = and-lt 8 v 0xFA h (lit< tt)
+
+kept-may : (v : ℕ) → v < 256 → T (mayHold 0xF1 (kept v))
+unfolding mayHold kept
+kept-may v h = at (λ x. mayHold 0xF1 (kept x)) 256 tt v h
+
+irq-may : (v : ℕ) → v < 256 → T (mayHold 0xFA (v % 64))
+unfolding mayHold
+irq-may v h = at (λ x. mayHold 0xFA (x % 64)) 256 tt v h
+
+rp-may : (v : ℕ) → v < 256 → T (mayHold 0xFD (upper v * 16))
+unfolding mayHold
+rp-may v h = at (λ x. mayHold 0xFD (upper x * 16)) 256 tt v h
+
+-- what a register reads is a byte
+module _ {m : Machine} (l : Legal m) where
+  port-lines : (a : ℕ) → ByteLines (portLines m a)
+  port-lines a = lines-bytes (held m 0xF8) (held m 0xF6) a (l .file .bytes 0xF8) (l .file .bytes 0xF6)
+
+  pub read-byte : (p : Pins) (a : ℕ) → LegalPins p → readReg p m a < 256
+  unfolding readReg readPort portReads
+  read-byte p a lp =
+      by-test B (ltb a 0x04)
+      (λ t. masked-byte (portLines m a .address) 0xFF _ (port-lines a .address-byte) (lit< tt)
+      (masked-byte (portLines m a .inputs) (pinsOf p a) (held m a) (port-lines a .inputs-byte) (pins-byte p a lp) (l .file .bytes a))) (λ t.
+      by-test B (isHole a) (λ u. lit< tt) (λ u.
+      by-test B (isWriteOnly a) (λ u. lit< tt) (λ u.
+      by-test B (eqb a 0xF2) (λ u. omega arith) (λ u.
+      by-test B (eqb a 0xF4) (λ u. omega arith) (λ u.
+      by-test B (eqb a 0xFB) (λ u. and-lt 8 (held m a) 0xBF (l .file .bytes a) (lit< tt)) (λ u. l .file .bytes a))))))
+    where
+      B : ℕ → Type 0
+      B v = v < 256
+
+  -- ---- stores
+  port-legal : (a v : ℕ) → a < 0x04 → v < 256 → Legal (writePort m a v)
+  unfolding writePort portStores mayHold
+  port-legal a v h hv =
+      placed-legal a _ l (omega arith)
+      (masked-byte (portLines m a .address) (held m a) v (port-lines a .address-byte) (l .file .bytes a) hv)
+      (under (ltb a 0x04) _ (at (λ x. not (ltb x 0x04) || mayHold x (masked (portLines m a .address) (held m a) v)) 256 tt a (omega arith)) (lt-ltb a 0x04 h))
+
+  registers-bytes : (tmr : ℕ) → Bytes (controlWith m tmr)
+  unfolding controlWith
+  registers-bytes tmr =
+      record { t1-byte = l .file .bytes 0xF2; pre1-byte = l .file .bytes 0xF3; t0-byte = l .file .bytes 0xF4; pre0-byte = l .file .bytes 0xF5 }
+
+  tmr-legal : (v : ℕ) → v < 256 → Legal (writeTmr m v)
+  unfolding writeTmr
+  tmr-legal v hv =
+      placed-legal 0xF1 (kept v)
+      (counts-legal (written (controlWith m v) (movingOf m)) l (written-legal (controlWith m v) (movingOf m) (registers-bytes v) (l .moving)))
+      (lit< tt)
+      (kept-byte v hv)
+      (kept-may v hv)
+
+  pub write-legal : (a v : ℕ) → a < 256 → v < 256 → Legal (writeReg m a v)
+  unfolding writeReg mayHold
+  write-legal a v ha hv =
+      by-test Legal (ltb a 0x04) (λ t. port-legal a v (ltb-true a 0x04 t) hv) (λ t.
+      by-test Legal (isHole a) (λ u. l) (λ hole.
+      by-test Legal (eqb a 0xF1) (λ e. tmr-legal v hv) (λ n1.
+      by-test Legal (eqb a 0xFA) (λ e. placed-legal a (v % 64) l ha (omega arith) (rw (eqb-true a 0xFA e) (irq-may v hv))) (λ na.
+      by-test Legal (eqb a 0xFD) (λ e. placed-legal a (upper v * 16) l ha (omega arith) (rw (eqb-true a 0xFD e) (rp-may v hv))) (λ nd.
+      placed-legal a v l ha hv (rw (hole, n1, na, nd) tt))))))
+
+-- ---- pairs and the stack
+pub pair-legal : {m : Machine} (a w : ℕ) → Legal m → a < 256 → w < 65536 → Legal (writePair m a w)
+unfolding writePair
+pair-legal a w l ha hw =
+    write-legal (write-legal l (evenOf a) (highByte w) (omega arith) (omega arith)) (evenOf a + 1) (lowByte w) (omega arith) (omega arith)
+
+-- all of a list are bytes
+abbrev pub AllBytes : List ℕ → Type 0
+AllBytes [] = Unit {0}
+AllBytes (v ∷ vs) = (v < 256) × AllBytes vs
+
+from-legal : {m : Machine} (a : ℕ) (vs : List ℕ) → Legal m → a < 256 → AllBytes vs → Legal (writtenFrom m a vs)
+from-legal a [] l h all = l
+from-legal a (v ∷ vs) l h all = from-legal ((a + 1) % 256) vs (write-legal l a v h (all .0)) (omega arith) (all .1)
+
+-- SPH and SPL may hold any byte
+spl-legal : {m : Machine} (sp : ℕ) → Legal m → sp < 256 → Legal (placed m 0xFF sp)
+unfolding mayHold
+spl-legal sp l h = placed-legal 0xFF sp l (lit< tt) h tt
+
+sp-legal : {m : Machine} (sp : ℕ) → Legal m → sp < 65536 → Legal (spSet m sp)
+unfolding spSet mayHold
+sp-legal sp l h = spl-legal (lowByte sp) (placed-legal 0xFE (highByte sp) l (lit< tt) (omega arith) tt) (omega arith)
+
+pub pushed-legal : {m : Machine} (b : bytes.Bytes) → Legal m → AllBytes (listOf b) → Legal (pushed m b .machine)
+unfolding pushed pushedInside pushedOutside
+pushed-legal {m} b l all =
+    by-test (λ (s : Stacked). Legal (s .machine)) (isInside m)
+    (λ t. from-legal sp (listOf b) (spl-legal sp l (omega arith)) (omega arith) all)
+    (λ t. sp-legal (plus (spOf m) (65536 - length (listOf b))) l (omega arith))
+  where
+    sp : ℕ
+    sp = (spl m + (256 - length (listOf b))) % 256
+
+pub raised-legal : {m : Machine} (n : ℕ) → Legal m → Legal (raised m n)
+unfolding raised
+raised-legal {m} n l =
+    by-test Legal (isInside m) (λ t. spl-legal ((spl m + n) % 256) l (omega arith)) (λ t. sp-legal (plus (spOf m) n) l (omega arith))
+
+-- ---- reset and the new machine
+abbrev fits : Place → Bool
+fits p = ltb (p .address) 256 && (ltb (p .byte) 256 && mayHold (p .address) (p .byte))
+
+abbrev allFit : List Place → Bool
+allFit [] = true
+allFit (p ∷ ps) = fits p && allFit ps
+
+all-placed : {l : List ℕ} (ps : List Place) → T (allFit ps) → LegalFile l → LegalFile (placedAll l ps)
+all-placed [] t f = f
+all-placed (p ∷ ps) t f =
+    let here = and-left (fits p) (allFit ps) t in
+    let more = and-right (ltb (p .address) 256) (ltb (p .byte) 256 && mayHold (p .address) (p .byte)) here in
+    all-placed ps (and-right (fits p) (allFit ps) t)
+    (file-placed (p .address) (p .byte) f
+    (ltb→lt (p .address) 256 (and-left (ltb (p .address) 256) _ here))
+    (ltb→lt (p .byte) 256 (and-left (ltb (p .byte) 256) (mayHold (p .address) (p .byte)) more))
+    (and-right (ltb (p .byte) 256) (mayHold (p .address) (p .byte)) more))
+
+-- reset makes of any machine with a legal file, a type and an entry cost a legal one
+reset-from : (m : Machine) → LegalFile (m .regs) → T (isKind (m .kind)) → T (isCost (m .cost)) → Legal (resetOf m)
+unfolding resetOf resetPlaces mayHold movingOf
+reset-from m f k c =
+    let after = all-placed resetPlaces tt f in
+    record {
+      file = after;
+      pc-word = lit< tt;
+      moving =
+          record {
+            divider-high = lit< tt;
+            counting0 = record { prescaler-low = lit< tt; prescaler-high = lit≤ tt; counter-low = lit< tt; counter-high = lit≤ tt };
+            counting1 = record { prescaler-low = lit< tt; prescaler-high = lit≤ tt; counter-low = lit< tt; counter-high = lit≤ tt };
+            irq-high = irq-small _ (after .bytes 0xFA) (after .places 0xFA);
+          };
+      port3-byte = lit< tt;
+      kind = k;
+      cost = c;
+    }
+
+pub reset-legal : (m : Machine) → Legal m → Legal (resetOf m)
+reset-legal m l = reset-from m (l .file) (l .kind) (l .cost)
+
+-- a file of zeros
+zero-held : (n a : ℕ) → _≡_ {A = ℕ} (getD (replicate n 0) a 0) 0
+zero-held zero a = refl
+zero-held (suc n) zero = refl
+zero-held (suc n) (suc a) = zero-held n a
+
+zero-may : (a : ℕ) → T (mayHold a 0)
+unfolding mayHold
+zero-may a =
+    by-test T (isHole a) (λ t. tt) (λ t. by-test T (eqb a 0xF1) (λ u. tt) (λ u. by-test T (eqb a 0xFA) (λ w. tt) (λ w. by-test T (eqb a 0xFD) (λ z. tt) (λ z. tt))))
+
+zeros-legal : LegalFile (replicate 256 0)
+unfolding heldIn
+zeros-legal =
+    record {
+      long = refl;
+      bytes = λ a. rw (zero-held 256 a) (lit< tt);
+      places = λ a. rw (zero-held 256 a) (zero-may a);
+    }
+
+pub new-legal : (kind cost : ℕ) → T (isKind kind) → T (isCost cost) → Legal (newOf kind cost)
+unfolding newOf
+new-legal kind cost k c = reset-from (blank kind cost) zeros-legal k c
+
+-- ---- cycles
+enabling-may : (a b : Bool) (x : ℕ) → x < 256 → T (mayHold 0xF1 x) → (enabling x a b < 256) × T (mayHold 0xF1 (enabling x a b))
+unfolding enabling mayHold
+enabling-may a b x h t = (
+  ltb→lt (enabling x a b) 256 (rw (every (λ c d y. ltb (enabling y c d) 256) (λ c d y. true) refl refl refl refl a b x h) tt),
+  implied (mayHold 0xF1 x) (mayHold 0xF1 (enabling x a b)) (rw (every (λ c d y. not (mayHold 0xF1 y) || mayHold 0xF1 (enabling y c d)) (λ c d y. true) refl refl refl refl a b x h) tt) t,
+)
+
+pub moved-legal : {m : Machine} (x : Moving) → Legal m → LegalMoving x → Legal (movedTo m x)
+unfolding movedTo countsAt
+moved-legal {m} x l k =
+    let e = enabling-may (x .t0 .enabled) (x .t1 .enabled) (held m 0xF1) (l .file .bytes 0xF1) (l .file .places 0xF1) in
+    placed-legal 0xFA (x .lines .irq)
+    (placed-legal 0xF1 (enabling (held m 0xF1) (x .t0 .enabled) (x .t1 .enabled)) (counts-legal x l k) (lit< tt) (e .0) (e .1))
+    (lit< tt)
+    (omega (arith, k .irq-high))
+    (irq-fits (x .lines .irq) (k .irq-high))
+
+pub setting-of : {m : Machine} → Legal m → LegalSetting (settingOf (controlOf m))
+unfolding controlOf
+setting-of {m} l = setting-legal (controlWith m (held m 0xF1)) (registers-bytes l (held m 0xF1))
+
+pub span-legal : {m : Machine} (n : ℕ) → Legal m → Legal (spanOf n m .machine)
+unfolding shown
+span-legal {m} n l =
+    rw (span-is m (l .file .long) (l .file .bytes 0xF1) n)
+    (moved-legal (cycles (settingOf (controlOf m)) n (movingOf m) .now) l (cycles-legal (settingOf (controlOf m)) (setting-of l) n (movingOf m) (l .moving)))

@@ -1,0 +1,156 @@
+-- What the order asks of a machine beyond the contracts: a store moves nothing else, the Ex rule is applied once, a span moves the timers'
+-- part alone, and the closed formula. Assumes nothing.
+use mathlib.Core.Path.{_≡_, _∙_, refl, ap, sym}
+use mathlib.Core.Bool.{Bool, true, false}
+use mathlib.Core.Logic.{_≢_}
+use Prim.Native.Nat.{ℕ, zero, suc, _+_, _*_, _/_, _%_, _^_, _≤_, _<_}
+use native.Mathlib.Omega.{arith}
+use borrow.Author.Tests.{eqb-true, eq-eqb, ne-eqb}
+use lib.Dec.{eqb, ltb}
+use lib.ListN.{length}
+use lib.Bits.{bitAnd, bitOr, or-mod, or-zero-r}
+use Rattle.word.proofs.Computed.{by-test}
+use Rattle.timers.specs.Iter.{iter}
+use Rattle.timers.specs.Requests.{latch}
+use Rattle.timers.specs.Control.{settingOf, setupOf}
+use Rattle.timers.specs.Timer.{ticked}
+use Rattle.timers.specs.Clock.{endOf, both, cycle, cycles, begun, atDivider, Which, T0, T1, setupFor, countingFor, endsFor, gone, Steady}
+use Rattle.timers.specs.declared.Setup.{Setup}
+use Rattle.timers.specs.declared.Setting.{Setting}
+use Rattle.timers.specs.declared.Source.{Source}
+use Rattle.timers.specs.declared.Source.the-variants.{Divider}
+use Rattle.timers.specs.declared.Lines.{Lines}
+use Rattle.timers.specs.declared.Moving.{Moving}
+use Rattle.timers.specs.declared.Spanned.{Spanned}
+use Rattle.timers.proofs.Iterate.{iter-keeps}
+use Rattle.timers.proofs.Formula.{formula}
+use Rattle.machine.specs.State.{coreOf, held, placed}
+use Rattle.machine.specs.Clock.{Ran, controlWith, controlOf, movingOf, countsAt, movedTo, writeTmr, shown, spanOf}
+use Rattle.machine.specs.Registers.{isHole, readReg, writePort, writeReg}
+use Rattle.machine.specs.Addresses.{workingAt, registerAt}
+use Rattle.machine.specs.Legal.{Legal}
+use Rattle.machine.specs.declared.Machine.{Machine}
+use Rattle.machine.specs.declared.Core.{Core}
+use Rattle.machine.specs.declared.Pins.{Pins}
+use Rattle.machine.proofs.Places.{held-other}
+use Rattle.machine.proofs.Holes.{hole-reads, hole-drops}
+use Rattle.machine.proofs.Lens.{put-tmr, put-irq, put-other, rest-kept, span-is}
+use Rattle.machine.proofs.Legal.{setting-of}
+
+-- a store to register a leaves every other place
+pub store-leaves : (m : Machine) (a v b : ℕ) → b ≢ a → held (writeReg m a v) b ≡ held m b
+unfolding writeReg writePort writeTmr countsAt placed
+store-leaves m a v b n =
+    by-test S (ltb a 0x04) (λ t. held-other (m .regs) a b _ n) (λ t.
+    by-test S (isHole a) (λ u. refl) (λ u.
+    by-test S (eqb a 0xF1) (λ e. held-other (m .regs) 0xF1 b _ (λ own. n (own ∙ sym (eqb-true a 0xF1 e)))) (λ u.
+    by-test S (eqb a 0xFA) (λ e. held-other (m .regs) a b _ n) (λ u.
+    by-test S (eqb a 0xFD) (λ e. held-other (m .regs) a b _ n) (λ u. held-other (m .regs) a b _ n)))))
+  where
+    S : Machine → Type 0
+    S k = held k b ≡ held m b
+
+-- and, but for TMR, all that is no place
+pub store-leaves-core : (m : Machine) (a v : ℕ) → a ≢ 0xF1 → coreOf (writeReg m a v) ≡ coreOf m
+unfolding writeReg writePort placed
+store-leaves-core m a v n =
+    rw (ne-eqb a 0xF1 n)
+    (by-test S (ltb a 0x04) (λ t. refl) (λ t.
+    by-test S (isHole a) (λ u. refl) (λ u.
+    by-test S (eqb a 0xFA) (λ e. refl) (λ u.
+    by-test S (eqb a 0xFD) (λ e. refl) (λ u. refl)))))
+  where
+    S : Machine → Type 0
+    S k = coreOf k ≡ coreOf m
+
+-- RP E0: a field Ex leads to the hole Ex and not on through the Ex rule again
+pub hole-group : (p : Pins) (m : Machine) (x v : ℕ) → held m 0xFD ≡ 0xE0 → x < 16
+    → (registerAt m (0xE0 + x) ≡ 0xE0 + x) × (readReg p m (0xE0 + x) ≡ 0xFF) × (writeReg m (0xE0 + x) v ≡ m)
+unfolding registerAt workingAt
+hole-group p m x v e h =
+    let work : (0xE0 + x) / 16 ≡ 0x0E = omega arith in
+    let low : (0xE0 + x) % 16 ≡ x = omega arith in
+    (rw (e, work, low), sym (hole-reads p m (0xE0 + x) (omega arith) (omega arith)), sym (hole-drops m (0xE0 + x) v (omega arith) (omega arith)))
+
+-- ---- a span
+-- no end touches requests 0 to 3
+end-leaves : (s : Setup) → 2 ^ s .request % 16 ≡ 0 → (l : Lines) → endOf s l .irq % 16 ≡ l .irq % 16
+unfolding endOf latch
+end-leaves s e l = or-mod (l .irq) (2 ^ s .request) 4 ∙ rw e (or-zero-r (l .irq % 16))
+
+module _ (m : Machine) where
+  abbrev set : Setting
+  set = settingOf (controlOf m)
+
+  abbrev Low : ℕ → Spanned → Type 0
+  Low irq x = x .now .lines .irq % 16 ≡ irq % 16
+
+  both-leave : (irq : ℕ) (x : Spanned) → Low irq x → Low irq (both Divider set x)
+  unfolding both settingOf setupOf
+  both-leave irq x e =
+      iter-keeps (endOf (set .t1)) L (λ l h. end-leaves (set .t1) refl l ∙ h) _ _
+      (iter-keeps (endOf (set .t0)) L (λ l h. end-leaves (set .t0) refl l ∙ h) _ (x .now .lines) e)
+    where
+      L : Lines → Type 0
+      L l = l .irq % 16 ≡ irq % 16
+
+  cycle-leaves : (irq : ℕ) (x : Spanned) → Low irq x → Low irq (cycle set x)
+  unfolding cycle
+  cycle-leaves irq x e =
+      by-test (Low irq) (eqb ((x .now .divider + 1) % 4) 0) (λ t. both-leave irq (atDivider x ((x .now .divider + 1) % 4)) e) (λ t. e)
+
+  cycles-leave : (n : ℕ) → cycles set n (movingOf m) .now .lines .irq % 16 ≡ movingOf m .lines .irq % 16
+  unfolding cycles
+  cycles-leave n = iter-keeps (cycle set) (Low (movingOf m .lines .irq)) (cycle-leaves (movingOf m .lines .irq)) n (begun (movingOf m)) refl
+
+-- all that a span moves: the divider, the counts, T_OUT, the enable bits of TMR, requests 4 and 5
+pub record SpanLeaves (m k : Machine) : Type 0 where
+  pub places : (a : ℕ) → (a ≡ 0xF1 → ⊥) → (a ≡ 0xFA → ⊥) → held k a ≡ held m a
+  pub tmr-but-enables : bitAnd (held k 0xF1) 0xF5 ≡ bitAnd (held m 0xF1) 0xF5
+  pub requests-0-to-3 : held k 0xFA % 16 ≡ held m 0xFA % 16
+  pub pc : k .pc ≡ m .pc
+  pub port3 : k .port3 ≡ m .port3
+  pub kind : k .kind ≡ m .kind
+  pub cost : k .cost ≡ m .cost
+
+pub span-leaves : (m : Machine) → Legal m → (n : ℕ) → SpanLeaves m (spanOf n m .machine)
+unfolding movingOf movedTo placed countsAt shown
+span-leaves m l n = rw (span-is m long byte n) (moved-leaves (cycles (settingOf (controlOf m)) n (movingOf m) .now) (cycles-leave m n))
+  where
+    long : length (m .regs) ≡ 256
+    long = l .file .long
+
+    byte : held m 0xF1 < 256
+    byte = l .file .bytes 0xF1
+
+    moved-leaves : (x : Moving) → x .lines .irq % 16 ≡ movingOf m .lines .irq % 16 → SpanLeaves m (movedTo m x)
+    moved-leaves x e =
+        record {
+          places = put-other m long byte x;
+          tmr-but-enables = ap (λ (t : ℕ). bitAnd t 0xF5) (put-tmr m long byte x) ∙ rest-kept (x .t0 .enabled) (x .t1 .enabled) (held m 0xF1) byte;
+          requests-0-to-3 = ap (λ (i : ℕ). i % 16) (put-irq m long byte x) ∙ e;
+          pc = refl;
+          port3 = refl;
+          kind = refl;
+          cost = refl;
+        }
+
+-- Demand 3 of a machine. Its first sentence is the contract of `clock::span`: the move by division is the single cycles. Its second: a
+-- timer that takes the divider's ticks, enabled and repeating, its counts within P and N, ends once in 4 x P x N cycles, those already
+-- gone counted in.
+abbrev pub endsOf : Which → Ran → ℕ
+endsOf T0 r = r .ends0
+endsOf T1 r = r .ends1
+
+pub ends-by-formula : (m : Machine) → Legal m → (w : Which) (n : ℕ)
+    → Steady (setupFor w (settingOf (controlOf m))) (countingFor w (movingOf m))
+    → endsOf w (spanOf n m)
+    ≡ (n + gone (m .divider) (setupFor w (settingOf (controlOf m))) (countingFor w (movingOf m)))
+    / (4 * setupFor w (settingOf (controlOf m)) .p * setupFor w (settingOf (controlOf m)) .n)
+unfolding shown movingOf
+ends-by-formula m l w n st =
+    ends-shown w ∙ formula (settingOf (controlOf m)) (movingOf m) (setting-of l) (l .moving) w n st
+  where
+    ends-shown : (v : Which) → endsOf v (spanOf n m) ≡ endsFor v (cycles (settingOf (controlOf m)) n (movingOf m))
+    ends-shown T0 = ap (λ (r : Ran). r .ends0) (span-is m (l .file .long) (l .file .bytes 0xF1) n)
+    ends-shown T1 = ap (λ (r : Ran). r .ends1) (span-is m (l .file .long) (l .file .bytes 0xF1) n)

@@ -1,0 +1,50 @@
+use borrow.Author.Needs.{needs}
+use Rattle.machine.proofs.memory.load.Statement.{statement}
+use Rattle.machine.proofs.memory.load.Tie as tie
+use Rattle.machine.proofs.memory.load.Reads as reads
+use Rattle.machine.proofs.memory.load.Lts as lts
+use Rattle.machine.proofs.memory.data_start.Reads as data-start-reads
+use mathlib.Core.Path.{_≡_, _∙_, refl, sym}
+use native.Mathlib.Omega.{arith}
+use Prim.Native.Nat.{ℕ, _<_, _≤_}
+use borrow.Author.Tests.{lt-ltb, le-ltb, eq-eqb, ne-eqb}
+use lib.ListN.{getD, set, length, List·getD-eq-default}
+use mathlib.Core.List.{List}
+use Rattle.machine.proofs.Elements.{element}
+use Rattle.machine.specs.Memory.{dataByte, dataStart}
+
+below : (kind : ℕ) (mem : List ℕ) (a : ℕ) → a < dataStart kind → 0xFF ≡ dataByte kind mem a
+unfolding dataByte
+below kind mem a h = rw (lt-ltb a (dataStart kind) h)
+
+within : (kind : ℕ) (mem : List ℕ) (a : ℕ) → dataStart kind ≤ a → a < length mem → getD mem a 0 ≡ dataByte kind mem a
+unfolding dataByte
+within kind mem a h k = rw (le-ltb a (dataStart kind) h) (element mem a 0 0xFF k)
+
+past : (kind : ℕ) (mem : List ℕ) (a : ℕ) → dataStart kind ≤ a → length mem ≤ a → 0xFF ≡ dataByte kind mem a
+unfolding dataByte
+past kind mem a h k = rw (le-ltb a (dataStart kind) h) (sym (List·getD-eq-default mem 0xFF k))
+
+-- src/memory.rt:26:9
+data-start-requires : tie.Need-data-start-requires
+data-start-requires c κs = search needs
+
+-- src/memory.rt:29:9
+returns : tie.Need-returns
+returns c = let under : c .before .before .before .args .a < dataStart (c .before .before .before .args .kind) = rw (c .before .data-start .ensures) at (c .if1 .taken) in below _ _ _ under
+
+-- src/memory.rt:31:24
+shared-slice-read-result : tie.Need-shared-slice-read-result
+shared-slice-read-result c = search needs
+
+-- src/memory.rt:23:1
+returns-2 : tie.Need-returns-2
+returns-2 c = let from : dataStart (c .before .before .before .before .before .args .kind) ≤ c .before .before .before .before .before .args .a = rw (c .before .before .before .data-start .ensures) at (c .before .before .if1 .left) in within _ (c .before .before .before .before .before .args .mem .now) _ from (c .before .if2 .taken)
+
+-- src/memory.rt:23:1
+returns-3 : tie.Need-returns-3
+returns-3 c = let from : dataStart (c .before .before .before .before .args .kind) ≤ c .before .before .before .before .args .a = rw (c .before .before .data-start .ensures) at (c .before .if1 .left) in past _ (c .before .before .before .before .args .mem .now) _ from (c .if2 .left)
+
+pub load-spec : {M : Type 1} → statement M
+load-spec =
+    tie.close (tie.spec data-start-requires returns shared-slice-read-result returns-2 returns-3)

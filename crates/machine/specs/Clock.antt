@@ -1,0 +1,88 @@
+-- What the timers read and move of a machine, and the machine's own cycles (01 "The timers"). Assumes nothing.
+use mathlib.Core.Bool.{Bool}
+use mathlib.Core.List.{List}
+use Prim.Native.Nat.{ℕ}
+use lib.Bits.{bitAnd, bitOr}
+use Rattle.word.specs.Choose.{pick}
+use Rattle.timers.specs.Iter.{iter}
+use Rattle.timers.specs.Control.{settingOf, enable0, enable1, kept}
+use Rattle.timers.specs.Clock.{cycle, written}
+use Rattle.timers.specs.declared.Control.{Control}
+use Rattle.timers.specs.declared.Moving.{Moving}
+use Rattle.timers.specs.declared.Spanned.{Spanned}
+use Rattle.machine.specs.State.{whole, coreOf, held, placed}
+use Rattle.machine.specs.declared.Machine.{Machine}
+use Rattle.machine.specs.declared.Core.{Core}
+use Rattle.machine.specs.declared.clock.Clocked.{Clocked}
+
+-- what the timers read, with this byte for TMR: registers F2 to F5 hold start values and prescalers; "P31 is as in the last pins"
+unfoldable pub controlWith : Machine → ℕ → Control
+controlWith m tmr =
+    record { tmr = tmr; t1 = held m 0xF2; pre1 = held m 0xF3; t0 = held m 0xF4; pre0 = held m 0xF5; port3 = m .port3 }
+
+unfoldable pub controlOf : Machine → Control
+controlOf m = controlWith m (held m 0xF1)
+
+-- what cycles move: the divider, the counts in progress with the enable bits that stand in TMR, IRQ, T_OUT
+unfoldable pub movingOf : Machine → Moving
+movingOf m =
+    record {
+      divider = m .divider;
+      t0 = record { timer = m .t0; enabled = enable0 (held m 0xF1) };
+      t1 = record { timer = m .t1; enabled = enable1 (held m 0xF1) };
+      lines = record { irq = held m 0xFA; tout = m .tout };
+    }
+
+-- TMR with these enable bits, 1 for T0 and 3 for T1
+unfoldable pub enabling : ℕ → Bool → Bool → ℕ
+enabling tmr on0 on1 = bitOr (bitAnd tmr 0xF5) (bitOr (pick on0 0x02 0) (pick on1 0x08 0))
+
+-- the machine with other counts: divider, both timers, T_OUT
+abbrev pub coreAt : Core → Moving → Core
+coreAt k x =
+    record {
+      pc = k .pc;
+      divider = x .divider;
+      t0 = x .t0 .timer;
+      t1 = x .t1 .timer;
+      port3 = k .port3;
+      tout = x .lines .tout;
+      kind = k .kind;
+      cost = k .cost;
+    }
+
+unfoldable pub countsAt : Machine → Moving → Machine
+countsAt m x = whole (m .regs) (coreAt (coreOf m) x)
+
+-- the machine with all that cycles move as given: the counts, the enable bits in TMR, and IRQ
+unfoldable pub movedTo : Machine → Moving → Machine
+movedTo m x =
+    placed (placed (countsAt m x) 0xF1 (enabling (held m 0xF1) (x .t0 .enabled) (x .t1 .enabled))) 0xFA (x .lines .irq)
+
+-- a write to TMR: "Writing a load bit copies P and N, sets T_OUT to 1 if the byte written chooses that timer, and reads back 0. The
+-- divider isn't touched."
+unfoldable pub writeTmr : Machine → ℕ → Machine
+writeTmr m v = placed (countsAt m (written (controlWith m v) (movingOf m))) 0xF1 (kept v)
+
+-- a machine, and each timer's ends so far
+pub record Ran : Type 0 where
+  pub machine : Machine
+  pub ends0 : ℕ
+  pub ends1 : ℕ
+
+abbrev pub ranOf : List ℕ → Clocked → Ran
+ranOf file r = record { machine = whole file (r .k); ends0 = r .ends0; ends1 = r .ends1 }
+
+-- one cycle of a machine
+unfoldable pub seen : Ran → Spanned
+seen r = record { now = movingOf (r .machine); ends0 = r .ends0; ends1 = r .ends1 }
+
+unfoldable pub shown : Machine → Spanned → Ran
+shown m x = record { machine = movedTo m (x .now); ends0 = x .ends0; ends1 = x .ends1 }
+
+unfoldable pub cycleOf : Ran → Ran
+cycleOf r = shown (r .machine) (cycle (settingOf (controlOf (r .machine))) (seen r))
+
+-- n cycles, one by one: "A span is any count from 0 to 4,294,967,295. It compares no pins; P31 is as in the last pins."
+unfoldable pub spanOf : ℕ → Machine → Ran
+spanOf n m = iter n cycleOf (record { machine = m; ends0 = 0; ends1 = 0 })

@@ -1,0 +1,47 @@
+-- A legal machine (01 "Numbers the encoder sees"). Assumes nothing.
+use mathlib.Core.Path.{_≡_}
+use mathlib.Core.Bool.{Bool, true, _&&_}
+use mathlib.Core.List.{List}
+use Prim.Native.Nat.{ℕ, _<_}
+use lib.Dec.{T, eqb, ltb}
+use lib.ListN.{length}
+use Rattle.word.specs.Choose.{pick}
+use Rattle.word.specs.Fields.{bitOf, lower}
+use Rattle.timers.specs.Clock.{LegalMoving}
+use Rattle.machine.specs.State.{heldIn}
+use Rattle.machine.specs.Registers.{isHole}
+use Rattle.machine.specs.Clock.{movingOf}
+use Rattle.machine.specs.Start.{isKind, isCost}
+use Rattle.machine.specs.declared.Machine.{Machine}
+use Rattle.machine.specs.declared.Pins.{Pins}
+
+-- what a place may hold: "places 80 to EF and F0 (hexadecimal) zero; bits 0 and 2 of TMR, 6 and 7 of IRQ, and 0 to 3 of RP zero"
+unfoldable pub mayHold : ℕ → ℕ → Bool
+mayHold a v =
+    pick (isHole a) (eqb v 0)
+    (pick (eqb a 0xF1) (eqb (bitOf 0 v) 0 && eqb (bitOf 2 v) 0)
+    (pick (eqb a 0xFA) (eqb (bitOf 6 v) 0 && eqb (bitOf 7 v) 0)
+    (pick (eqb a 0xFD) (eqb (lower v) 0) true)))
+
+-- a file of 256 bytes, as every file in code is by its type, in which each place holds what it may
+pub record LegalFile (file : List ℕ) : Type 0 where
+  pub long : length file ≡ 256
+  pub bytes : (a : ℕ) → heldIn file a < 256
+  pub places : (a : ℕ) → T (mayHold a (heldIn file a))
+
+-- `moving` says "divider 0 to 3; prescalers 1 to 64", and that a counter is 1 to 256; T_OUT is 0 or 1 by its type, as the program counter
+-- is a word and the last pins a byte.
+pub record Legal (m : Machine) : Type 0 where
+  pub file : LegalFile (m .regs)
+  pub pc-word : m .pc < 65536
+  pub moving : LegalMoving (movingOf m)
+  pub port3-byte : m .port3 < 256
+  pub kind : T (isKind (m .kind))
+  pub cost : T (isCost (m .cost))
+
+-- the pins given with a call are bytes
+pub record LegalPins (p : Pins) : Type 0 where
+  pub port0-byte : p .port0 < 256
+  pub port1-byte : p .port1 < 256
+  pub port2-byte : p .port2 < 256
+  pub port3-byte : p .port3 < 256

@@ -1,0 +1,9 @@
+pub mod State
+pub mod Ports
+pub mod Clock
+pub mod Registers
+pub mod Addresses
+pub mod Memory
+pub mod Stack
+pub mod Start
+pub mod Legal

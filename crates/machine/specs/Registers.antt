@@ -1,0 +1,55 @@
+-- What a register's address reads, and what a store to it does (01 "Memory and registers"; 004 3.2 and 10.8; 002, R240 to R255).
+-- Assumes nothing.
+use mathlib.Core.Bool.{Bool, _&&_, _||_}
+use Prim.Native.Nat.{ℕ, _*_, _%_}
+use lib.Dec.{eqb, ltb, leb}
+use lib.Bits.{bitAnd}
+use Rattle.word.specs.Choose.{pick}
+use Rattle.word.specs.Fields.{upper, lowByte}
+use Rattle.machine.specs.State.{held, placed}
+use Rattle.machine.specs.Ports.{linesOf, pinsOf, portReads, portStores}
+use Rattle.machine.specs.Clock.{writeTmr}
+use Rattle.machine.specs.declared.Machine.{Machine}
+use Rattle.machine.specs.declared.Pins.{Pins}
+use Rattle.machine.specs.declared.ports.Directions.{Directions}
+
+-- "80 to EF and F0 read FF and drop stores (HOUSE)."
+abbrev pub isHole : ℕ → Bool
+isHole a = leb 0x80 a && leb a 0xF0
+
+-- "F3 and F5 to F9 are write-only (002) and read FF."
+abbrev pub isWriteOnly : ℕ → Bool
+isWriteOnly a = eqb a 0xF3 || (leb 0xF5 a && leb a 0xF9)
+
+-- a port's directions, by P01M and P2M
+abbrev pub portLines : Machine → ℕ → Directions
+portLines m a = linesOf (held m 0xF8) (held m 0xF6) a
+
+unfoldable pub readPort : Pins → Machine → ℕ → ℕ
+readPort p m a = portReads (portLines m a) (pinsOf p a) (held m a)
+
+unfoldable pub writePort : Machine → ℕ → ℕ → Machine
+writePort m a v = placed m a (portStores (portLines m a) (held m a) v)
+
+-- what register a reads: "F2 and F4 read the count in progress, 256 as 0." IMR's bit 6 "is not implemented, though reading this bit
+-- returns 0" (004, 10.8).
+unfoldable pub readReg : Pins → Machine → ℕ → ℕ
+readReg p m a =
+    pick (ltb a 0x04) (readPort p m a)
+    (pick (isHole a) 0xFF
+    (pick (isWriteOnly a) 0xFF
+    (pick (eqb a 0xF2) (lowByte (m .t1 .counter))
+    (pick (eqb a 0xF4) (lowByte (m .t0 .counter))
+    (pick (eqb a 0xFB) (bitAnd (held m a) 0xBF)
+    (held m a))))))
+
+-- a store of v to register a: a hole drops it, TMR (F1) acts on its load bits, IRQ (FA) drops bits 6 and 7 (HOUSE), and RP (FD) its low
+-- nibble, which "always reads 0 (HOUSE)"
+unfoldable pub writeReg : Machine → ℕ → ℕ → Machine
+writeReg m a v =
+    pick (ltb a 0x04) (writePort m a v)
+    (pick (isHole a) m
+    (pick (eqb a 0xF1) (writeTmr m v)
+    (pick (eqb a 0xFA) (placed m a (v % 64))
+    (pick (eqb a 0xFD) (placed m a (upper v * 16))
+    (placed m a v)))))

@@ -1,0 +1,88 @@
+-- Reset, and the new machine (01 "One step", "Numbers the encoder sees"; 004, table 8-1). Assumes nothing.
+use mathlib.Core.Bool.{Bool, true, false, _&&_, _||_}
+use mathlib.Core.List.{List, [], _∷_}
+use Prim.Native.Nat.{ℕ}
+use lib.Dec.{eqb, leb}
+use lib.ListN.{replicate}
+use Rattle.word.specs.Choose.{pick}
+use Rattle.timers.specs.declared.Timer.{Timer}
+use Rattle.machine.specs.State.{placedIn}
+use Rattle.machine.specs.declared.Machine.{Machine}
+use Rattle.machine.specs.declared.start.Made.{Made}
+
+-- a place and what it then holds
+pub record Place : Type 0 where
+  pub address : ℕ
+  pub byte : ℕ
+
+abbrev pub holding : ℕ → ℕ → Place
+holding a v = record { address = a; byte = v }
+
+abbrev pub placedAll : List ℕ → List Place → List ℕ
+placedAll file [] = file
+placedAll file (p ∷ ps) = placedAll (placedIn file (p .address) (p .byte)) ps
+
+-- the latches of ports 0 to 3, and F1 to FF: "P01M 4D, P2M FF; P3M, TMR, IRQ, IMR, PRE0, PRE1 [..] 0; other control bytes and latches 0"
+unfoldable pub resetPlaces : List Place
+resetPlaces =
+    holding 0x00 0 ∷ holding 0x01 0 ∷ holding 0x02 0 ∷ holding 0x03 0
+    ∷ holding 0xF1 0 ∷ holding 0xF2 0 ∷ holding 0xF3 0 ∷ holding 0xF4 0 ∷ holding 0xF5 0
+    ∷ holding 0xF6 0xFF ∷ holding 0xF7 0 ∷ holding 0xF8 0x4D
+    ∷ holding 0xF9 0 ∷ holding 0xFA 0 ∷ holding 0xFB 0 ∷ holding 0xFC 0 ∷ holding 0xFD 0 ∷ holding 0xFE 0 ∷ holding 0xFF 0
+    ∷ []
+
+-- "prescalers 64, counters saved as 0", which is 256
+abbrev pub fullTimer : Timer
+fullTimer = record { prescaler = 64; counter = 256 }
+
+-- "Reset: PC 000C, [the places above], divider 0; [..] T_OUT 1, [..] last pins all ones. R4 to R127, type and entry cost stay"
+unfoldable pub resetOf : Machine → Machine
+resetOf m =
+    record {
+      regs = placedAll (m .regs) resetPlaces;
+      pc = 0x000C;
+      divider = 0;
+      t0 = fullTimer;
+      t1 = fullTimer;
+      port3 = 0xFF;
+      tout = true;
+      kind = m .kind;
+      cost = m .cost;
+    }
+
+-- "a new machine has R4 to R127 zero": a machine with nothing in its file, reset
+abbrev pub blank : ℕ → ℕ → Machine
+blank kind cost =
+    record {
+      regs = replicate 256 0;
+      pc = 0;
+      divider = 0;
+      t0 = fullTimer;
+      t1 = fullTimer;
+      port3 = 0;
+      tout = false;
+      kind = kind;
+      cost = cost;
+    }
+
+unfoldable pub newOf : ℕ → ℕ → Machine
+newOf kind cost = resetOf (blank kind cost)
+
+-- "A new machine: type 11 and entry cost 20 unless others are named (HOUSE)"
+unfoldable pub standardOf : Machine
+standardOf = newOf 11 20
+
+-- "type 1 or 11", "entry cost 6 to 63"
+abbrev pub isKind : ℕ → Bool
+isKind kind = eqb kind 1 || eqb kind 11
+
+abbrev pub isCost : ℕ → Bool
+isCost cost = leb 6 cost && leb cost 63
+
+-- refusal 3: "type not 1 or 11, or entry cost not 6 to 63, at making". A refused answer holds, as it has to hold one, the machine made
+-- where nothing is named.
+unfoldable pub madeOf : ℕ → ℕ → Made
+madeOf kind cost =
+    pick (isKind kind && isCost cost)
+    (record { refusal = 0; machine = newOf kind cost })
+    (record { refusal = 3; machine = standardOf })

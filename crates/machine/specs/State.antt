@@ -1,0 +1,49 @@
+-- The machine, and the places of its register file. Assumes nothing.
+use mathlib.Core.List.{List}
+use Prim.Native.Nat.{ℕ}
+use lib.ListN.{getD, set}
+use Rattle.machine.specs.declared.Machine.{Machine}
+use Rattle.machine.specs.declared.Core.{Core}
+
+-- "The register file is kept as 256 places in address order." What the place of register a holds, and the file with v in it: only these
+-- two know the layout.
+unfoldable pub heldIn : List ℕ → ℕ → ℕ
+heldIn file a = getD file a 0
+
+unfoldable pub placedIn : List ℕ → ℕ → ℕ → List ℕ
+placedIn file a v = set file a v
+
+-- a machine of its file and the rest, and the rest of a machine
+abbrev pub whole : List ℕ → Core → Machine
+whole file k =
+    record {
+      regs = file;
+      pc = k .pc;
+      divider = k .divider;
+      t0 = k .t0;
+      t1 = k .t1;
+      port3 = k .port3;
+      tout = k .tout;
+      kind = k .kind;
+      cost = k .cost;
+    }
+
+abbrev pub coreOf : Machine → Core
+coreOf m =
+    record {
+      pc = m .pc;
+      divider = m .divider;
+      t0 = m .t0;
+      t1 = m .t1;
+      port3 = m .port3;
+      tout = m .tout;
+      kind = m .kind;
+      cost = m .cost;
+    }
+
+-- what a machine's place holds, and the machine with v there and all else as it was
+abbrev pub held : Machine → ℕ → ℕ
+held m a = heldIn (m .regs) a
+
+unfoldable pub placed : Machine → ℕ → ℕ → Machine
+placed m a v = whole (placedIn (m .regs) a v) (coreOf m)

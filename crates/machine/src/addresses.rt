@@ -1,0 +1,82 @@
+// Operand addresses, and register pairs.
+use crate::Core;
+use crate::Pins;
+ghost use mathlib.Core.Path.{_≡_};
+ghost use Prim.Native.Nat.{_<_};
+ghost use Rattle.machine.specs.State.{whole};
+ghost use Rattle.machine.specs.Addresses.{workingAt, registerAt, indirectAt, workingIndirectAt, indexedAt, evenOf, readPair, writePair};
+
+// r: working register x of the group in RP.
+pub fn working(regs: &[u8; 256], k: Core, x: u8) -> u8
+    requires { ⌜ x < 16 ⌝ }
+    ensures { λ r. ⌜ r ≡ workingAt (whole (now (regs .entry)) k) x ⌝ }
+{
+    let rp = crate::registers::held(regs, 0xFD);
+    rp / 16 * 16 + x
+}
+
+// R: a register, indirect-register or pair field, where Ex is working register x.
+pub fn register(regs: &[u8; 256], k: Core, b: u8) -> u8
+    ensures { λ r. ⌜ r ≡ registerAt (whole (now (regs .entry)) k) b ⌝ }
+{
+    if b / 16 == 0x0E {
+        working(regs, k, b % 16)
+    } else {
+        b
+    }
+}
+
+// IR: the address found in the register of the field.
+pub fn indirect(regs: &[u8; 256], k: Core, pins: Pins, b: u8) -> u8
+    ensures { λ r. ⌜ r ≡ indirectAt pins (whole (now (regs .entry)) k) b ⌝ }
+{
+    let a = register(regs, k, b);
+    crate::registers::read(regs, k, pins, a)
+}
+
+// Ir: the address found in working register x.
+pub fn working_indirect(regs: &[u8; 256], k: Core, pins: Pins, x: u8) -> u8
+    requires { ⌜ x < 16 ⌝ }
+    ensures { λ r. ⌜ r ≡ workingIndirectAt pins (whole (now (regs .entry)) k) x ⌝ }
+{
+    let a = working(regs, k, x);
+    crate::registers::read(regs, k, pins, a)
+}
+
+// X: offset plus what working register x reads.
+pub fn indexed(regs: &[u8; 256], k: Core, pins: Pins, offset: u8, x: u8) -> u8
+    requires { ⌜ x < 16 ⌝ }
+    ensures { λ r. ⌜ r ≡ indexedAt pins (whole (now (regs .entry)) k) offset x ⌝ }
+{
+    let a = working(regs, k, x);
+    let index = crate::registers::read(regs, k, pins, a);
+    std::num::wrapping_add_u8(offset, index)
+}
+
+// A pair's address: the even register.
+fn even(a: u8) -> u8
+    ensures { λ r. ⌜ (r ≡ evenOf a) × (r < 255) ⌝ }
+{
+    a / 2 * 2
+}
+
+// The word that a pair reads.
+pub fn read_pair(regs: &[u8; 256], k: Core, pins: Pins, a: u8) -> u16
+    ensures { λ r. ⌜ r ≡ readPair pins (whole (now (regs .entry)) k) a ⌝ }
+{
+    let high = even(a);
+    let hi = crate::registers::read(regs, k, pins, high);
+    let lo = crate::registers::read(regs, k, pins, high + 1);
+    word::word(hi, lo)
+}
+
+// A word stored to a pair.
+pub fn write_pair(regs: &mut [u8; 256], k: Core, a: u8, w: u16) -> Core
+    ensures { λ r. ⌜ whole (now (regs .exit)) r ≡ writePair (whole (now (regs .entry)) k) a w ⌝ }
+{
+    let high = even(a);
+    let hi = word::high_byte(w);
+    let lo = word::low_byte(w);
+    let k1 = crate::registers::write(regs, k, high, hi);
+    crate::registers::write(regs, k1, high + 1, lo)
+}

@@ -1,0 +1,103 @@
+// The machine: everything that a step reads and writes (01 "Memory and registers"; 004 chapters 3, 6 and 9). A `Machine` goes by value
+// at the edges. Below them its register file is lent, beside a small `Core`, and the two are the machine: `regs, k` in every call.
+pub mod addresses;
+pub mod clock;
+pub mod memory;
+mod ports;
+pub mod registers;
+pub mod stack;
+pub mod start;
+
+use timers::Timer;
+ghost use mathlib.Core.Path.{_≡_};
+ghost use Rattle.word.specs.Choose.{pick};
+ghost use Rattle.machine.specs.State.{whole, coreOf};
+
+// 01's machine: the register file in address order, the program counter, the divider, both timers' counts in progress, the last Port 3
+// pins, the T_OUT level, the type (1 or 11) and the interrupt entry cost.
+pub struct Machine {
+    pub regs: [u8; 256],
+    pub pc: u16,
+    pub divider: u32,
+    pub t0: Timer,
+    pub t1: Timer,
+    pub port3: u8,
+    pub tout: bool,
+    pub kind: u8,
+    pub cost: u8,
+}
+
+// A machine but for its register file.
+pub struct Core {
+    pub pc: u16,
+    pub divider: u32,
+    pub t0: Timer,
+    pub t1: Timer,
+    pub port3: u8,
+    pub tout: bool,
+    pub kind: u8,
+    pub cost: u8,
+}
+
+// The pins of ports 0 to 3, as given with a call. They are no part of the machine.
+pub struct Pins {
+    pub port0: u8,
+    pub port1: u8,
+    pub port2: u8,
+    pub port3: u8,
+}
+
+// One to three bytes, in address order.
+pub enum Bytes {
+    One(u8),
+    Two(u8, u8),
+    Three(u8, u8, u8),
+}
+
+// What is to be stored in data memory: nothing, or bytes upward from an address.
+pub enum Stores {
+    Nothing,
+    At(u16, Bytes),
+}
+
+pub fn core_of(m: Machine) -> Core
+    ensures { λ k. ⌜ k ≡ coreOf m ⌝ }
+{
+    let t0 = m.t0;
+    let t1 = m.t1;
+    Core {
+        pc: m.pc,
+        divider: m.divider,
+        t0,
+        t1,
+        port3: m.port3,
+        tout: m.tout,
+        kind: m.kind,
+        cost: m.cost,
+    }
+}
+
+pub fn machine_of(regs: [u8; 256], k: Core) -> Machine
+    ensures { λ m. ⌜ m ≡ whole regs k ⌝ }
+{
+    let t0 = k.t0;
+    let t1 = k.t1;
+    Machine {
+        regs,
+        pc: k.pc,
+        divider: k.divider,
+        t0,
+        t1,
+        port3: k.port3,
+        tout: k.tout,
+        kind: k.kind,
+        cost: k.cost,
+    }
+}
+
+// These bits where the test holds, else none.
+fn bits_if(test: bool, bits: u8) -> u8
+    ensures { λ r. ⌜ r ≡ pick test bits 0 ⌝ }
+{
+    if test { bits } else { 0 }
+}

@@ -1,0 +1,78 @@
+// Program and data memory.
+use crate::Bytes;
+use crate::Stores;
+ghost use mathlib.Core.Path.{_≡_};
+ghost use Rattle.machine.specs.Memory.{programByte, dataStart, dataByte, dataStored, listOf, storedFrom, storedIn};
+
+// A byte of the program. Every fetch, vector and LDC goes by it.
+pub fn program(image: &[u8], a: u16) -> u8
+    ensures { λ r. ⌜ r ≡ programByte (now (image .entry)) a ⌝ }
+{
+    let i = a as usize;
+    if i < image.len() { image[i] } else { 0xFF }
+}
+
+// Where a type's data memory starts.
+fn data_start(kind: u8) -> u16
+    ensures { λ r. ⌜ r ≡ dataStart kind ⌝ }
+{
+    if kind == 1 { 2048 } else { 4096 }
+}
+
+// A byte of data memory.
+pub fn load(kind: u8, mem: &[u8], a: u16) -> u8
+    ensures { λ r. ⌜ r ≡ dataByte kind (now (mem .entry)) a ⌝ }
+{
+    let start = data_start(kind);
+    let i = a as usize;
+    if a < start {
+        return 0xFF;
+    }
+    if i < mem.len() { mem[i] } else { 0xFF }
+}
+
+fn store_byte(kind: u8, mem: &mut [u8], a: u16, v: u8)
+    ensures { λ _. ⌜ now (mem .exit) ≡ dataStored kind (now (mem .entry)) a v ⌝ }
+{
+    let start = data_start(kind);
+    let i = a as usize;
+    if a < start {
+        return;
+    }
+    if i < mem.len() {
+        mem[i] = v;
+    }
+}
+
+fn store_bytes(kind: u8, mem: &mut [u8], a: u16, b: Bytes)
+    ensures { λ _. ⌜ now (mem .exit) ≡ storedFrom kind (now (mem .entry)) a (listOf b) ⌝ }
+{
+    let next = word::plus(a, 1);
+    let last = word::plus(next, 1);
+    match b {
+        Bytes::One(x) => {
+            store_byte(kind, mem, a, x);
+        }
+        Bytes::Two(x, y) => {
+            store_byte(kind, mem, a, x);
+            store_byte(kind, mem, next, y);
+        }
+        Bytes::Three(x, y, z) => {
+            store_byte(kind, mem, a, x);
+            store_byte(kind, mem, next, y);
+            store_byte(kind, mem, last, z);
+        }
+    }
+}
+
+// What is to be stored in data memory, stored. Nothing else writes to it.
+pub fn store(kind: u8, mem: &mut [u8], s: Stores)
+    ensures { λ _. ⌜ now (mem .exit) ≡ storedIn kind (now (mem .entry)) s ⌝ }
+{
+    match s {
+        Stores::Nothing => {}
+        Stores::At(a, b) => {
+            store_bytes(kind, mem, a, b);
+        }
+    }
+}

@@ -1,0 +1,83 @@
+// What a register's address reads, and what a store to it does.
+use crate::Core;
+use crate::Pins;
+ghost use mathlib.Core.Path.{_≡_};
+ghost use Rattle.machine.specs.State.{heldIn, placedIn, whole};
+ghost use Rattle.machine.specs.Registers.{readPort, writePort, readReg, writeReg};
+
+// What the place of register a holds. This function and the next alone know how the file is laid out.
+pub fn held(regs: &[u8; 256], a: u8) -> u8
+    ensures { λ r. ⌜ r ≡ heldIn (now (regs .entry)) a ⌝ }
+{
+    regs[a as usize]
+}
+
+pub fn place(regs: &mut [u8; 256], a: u8, v: u8)
+    ensures { λ _. ⌜ now (regs .exit) ≡ placedIn (now (regs .entry)) a v ⌝ }
+{
+    regs[a as usize] = v;
+}
+
+fn read_port(regs: &[u8; 256], k: Core, pins: Pins, a: u8) -> u8
+    ensures { λ r. ⌜ r ≡ readPort pins (whole (now (regs .entry)) k) a ⌝ }
+{
+    let p01m = held(regs, 0xF8);
+    let p2m = held(regs, 0xF6);
+    let latch = held(regs, a);
+    let d = crate::ports::lines_of(p01m, p2m, a);
+    let pin = crate::ports::pins_of(pins, a);
+    crate::ports::reads(d, pin, latch)
+}
+
+fn write_port(regs: &mut [u8; 256], k: Core, a: u8, v: u8) -> Core
+    ensures { λ r. ⌜ whole (now (regs .exit)) r ≡ writePort (whole (now (regs .entry)) k) a v ⌝ }
+{
+    let p01m = held(regs, 0xF8);
+    let p2m = held(regs, 0xF6);
+    let latch = held(regs, a);
+    let d = crate::ports::lines_of(p01m, p2m, a);
+    let after = crate::ports::stores(d, latch, v);
+    place(regs, a, after);
+    k
+}
+
+// What register a reads.
+pub fn read(regs: &[u8; 256], k: Core, pins: Pins, a: u8) -> u8
+    ensures { λ r. ⌜ r ≡ readReg pins (whole (now (regs .entry)) k) a ⌝ }
+{
+    let t0 = k.t0;
+    let t1 = k.t1;
+    match a {
+        0x00..=0x03 => read_port(regs, k, pins, a),
+        0x80..=0xF0 => 0xFF,
+        0xF2 => (t1.counter % 256) as u8,
+        0xF3 => 0xFF,
+        0xF4 => (t0.counter % 256) as u8,
+        0xF5..=0xF9 => 0xFF,
+        0xFB => held(regs, a) & 0xBF,
+        _ => held(regs, a),
+    }
+}
+
+// A store of v to register a.
+pub fn write(regs: &mut [u8; 256], k: Core, a: u8, v: u8) -> Core
+    ensures { λ r. ⌜ whole (now (regs .exit)) r ≡ writeReg (whole (now (regs .entry)) k) a v ⌝ }
+{
+    match a {
+        0x00..=0x03 => write_port(regs, k, a, v),
+        0x80..=0xF0 => k,
+        0xF1 => crate::clock::write_tmr(regs, k, v),
+        0xFA => {
+            place(regs, a, v % 64);
+            k
+        }
+        0xFD => {
+            place(regs, a, v / 16 * 16);
+            k
+        }
+        _ => {
+            place(regs, a, v);
+            k
+        }
+    }
+}

@@ -1,0 +1,143 @@
+// Reset, and the new machine.
+use crate::Machine;
+use timers::Timer;
+ghost use mathlib.Core.Path.{_≡_};
+ghost use mathlib.Core.Bool.{_&&_};
+ghost use Rattle.machine.specs.Start.{placedAll, resetPlaces, resetOf, newOf, standardOf, isKind, isCost, madeOf, fullTimer};
+
+// A new machine; or a refusal's number, and then the standard machine, as the answer has to hold one.
+pub struct Made {
+    pub refusal: u8,
+    pub machine: Machine,
+}
+
+fn full_timer() -> Timer
+    ensures { λ r. ⌜ r ≡ fullTimer ⌝ }
+{
+    Timer {
+        prescaler: 64,
+        counter: 256,
+    }
+}
+
+// The places that reset writes, in address order: the ports' latches, and F1 to FF.
+fn reset_places(regs: &mut [u8; 256])
+    ensures { λ _. ⌜ now (regs .exit) ≡ placedAll (now (regs .entry)) resetPlaces ⌝ }
+{
+    crate::registers::place(regs, 0x00, 0);
+    crate::registers::place(regs, 0x01, 0);
+    crate::registers::place(regs, 0x02, 0);
+    crate::registers::place(regs, 0x03, 0);
+    crate::registers::place(regs, 0xF1, 0);
+    crate::registers::place(regs, 0xF2, 0);
+    crate::registers::place(regs, 0xF3, 0);
+    crate::registers::place(regs, 0xF4, 0);
+    crate::registers::place(regs, 0xF5, 0);
+    crate::registers::place(regs, 0xF6, 0xFF);
+    crate::registers::place(regs, 0xF7, 0);
+    crate::registers::place(regs, 0xF8, 0x4D);
+    crate::registers::place(regs, 0xF9, 0);
+    crate::registers::place(regs, 0xFA, 0);
+    crate::registers::place(regs, 0xFB, 0);
+    crate::registers::place(regs, 0xFC, 0);
+    crate::registers::place(regs, 0xFD, 0);
+    crate::registers::place(regs, 0xFE, 0);
+    crate::registers::place(regs, 0xFF, 0);
+}
+
+// The machine after a reset.
+pub fn reset(m: Machine) -> Machine
+    ensures { λ r. ⌜ r ≡ resetOf m ⌝ }
+{
+    let mut regs = m.regs;
+    reset_places(&mut regs);
+    let t0 = full_timer();
+    let t1 = full_timer();
+    Machine {
+        regs,
+        pc: 0x000C,
+        divider: 0,
+        t0,
+        t1,
+        port3: 0xFF,
+        tout: true,
+        kind: m.kind,
+        cost: m.cost,
+    }
+}
+
+fn is_kind(kind: u32) -> bool
+    ensures { λ r. ⌜ r ≡ isKind kind ⌝ }
+{
+    (kind == Machine::Z8601 as u32) | (kind == Machine::Z8611 as u32)
+}
+
+fn is_cost(cost: u32) -> bool
+    ensures { λ r. ⌜ r ≡ isCost cost ⌝ }
+{
+    (Machine::LEAST_COST as u32 <= cost) & (cost <= Machine::MOST_COST as u32)
+}
+
+impl Machine {
+    // The types: 1 is the Z8601 and 11 the Z8611.
+    pub const Z8601: u8 = 1;
+
+    pub const Z8611: u8 = 11;
+
+    pub const LEAST_COST: u8 = 6;
+
+    pub const MOST_COST: u8 = 63;
+
+    // What a new machine has where nothing is named.
+    pub const DEFAULT_KIND: u8 = 11;
+
+    pub const DEFAULT_COST: u8 = 20;
+
+    // A new machine of this type and entry cost.
+    fn fresh(kind: u8, cost: u8) -> Self
+        ensures { λ m. ⌜ m ≡ newOf kind cost ⌝ }
+    {
+        let regs = [0u8; 256];
+        let t0 = full_timer();
+        let t1 = full_timer();
+        reset(Machine {
+            regs,
+            pc: 0,
+            divider: 0,
+            t0,
+            t1,
+            port3: 0,
+            tout: false,
+            kind,
+            cost,
+        })
+    }
+
+    // A new machine where nothing is named.
+    pub fn standard() -> Self
+        ensures { λ m. ⌜ m ≡ standardOf ⌝ }
+    {
+        Machine::fresh(Machine::DEFAULT_KIND, Machine::DEFAULT_COST)
+    }
+
+    // A new machine of this type and entry cost, or refusal 3.
+    pub fn make(kind: u32, cost: u32) -> Made
+        ensures { λ r. ⌜ r ≡ madeOf kind cost ⌝ }
+    {
+        let known = is_kind(kind);
+        let payable = is_cost(cost);
+        if known & payable {
+            let machine = Machine::fresh(kind as u8, cost as u8);
+            Made {
+                refusal: 0,
+                machine,
+            }
+        } else {
+            let machine = Machine::standard();
+            Made {
+                refusal: 3,
+                machine,
+            }
+        }
+    }
+}
