@@ -48,7 +48,7 @@ implied true b u t = u
 implied false b u t = absurd t
 
 -- IRQ of a legal file is below 64
-irq-small : (v : ℕ) → v < 256 → T (mayHold 0xFA v) → v < 64
+pub irq-small : (v : ℕ) → v < 256 → T (mayHold 0xFA v) → v < 64
 unfolding mayHold
 irq-small v h t = ltb→lt v 64 (implied (mayHold 0xFA v) (ltb v 64) (at (λ x. not (mayHold 0xFA x) || ltb x 64) 256 tt v h) t)
 
@@ -287,7 +287,7 @@ zero-held zero a = refl
 zero-held (suc n) zero = refl
 zero-held (suc n) (suc a) = zero-held n a
 
-zero-may : (a : ℕ) → T (mayHold a 0)
+pub zero-may : (a : ℕ) → T (mayHold a 0)
 unfolding mayHold
 zero-may a =
     by-test T (isHole a) (λ t. tt) (λ t. by-test T (eqb a 0xF1) (λ u. tt) (λ u. by-test T (eqb a 0xFA) (λ w. tt) (λ w. by-test T (eqb a 0xFD) (λ z. tt) (λ z. tt))))

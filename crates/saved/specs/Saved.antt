@@ -1,0 +1,91 @@
+-- A machine as 268 bytes, and which bytes are a machine (01 "Numbers the encoder sees"). Assumes nothing.
+use mathlib.Core.Bool.{Bool, true, _&&_}
+use mathlib.Core.List.{List, [], _∷_, _++_}
+use Prim.Native.Nat.{ℕ, zero, suc, _+_}
+use lib.Dec.{eqb, leb}
+use lib.ListN.{getD, length, take}
+use Rattle.word.specs.Choose.{pick, oneIf}
+use Rattle.word.specs.Fields.{bitOf, lower, wordOf, highByte, lowByte}
+use Rattle.timers.specs.Control.{orHighest}
+use Rattle.timers.specs.declared.Timer.{Timer}
+use Rattle.machine.specs.Start.{isKind, isCost, standardOf}
+use Rattle.machine.specs.declared.Machine.{Machine}
+use Rattle.saved.specs.declared.Loaded.{Loaded}
+
+-- byte i of a saved machine
+abbrev pub byte : List ℕ → ℕ → ℕ
+byte s i = getD s i 0
+
+-- "A counter of 256 is saved as 0."
+unfoldable pub timerOf : ℕ → ℕ → Timer
+timerOf prescaler counter = record { prescaler = prescaler; counter = orHighest 256 counter }
+
+-- "0 to 255 the register file in address order; 256 and 257 the program counter, high byte first; 258 the divider; 259 and 260 T0's
+-- prescaler and counter; 261 and 262 T1's; 263 the last Port 3 pins; 264 the T_OUT level; 265 the type (1 or 11); 266 the interrupt
+-- entry cost; 267 zero."
+unfoldable pub machineOf : List ℕ → Machine
+machineOf s =
+    record {
+      regs = take 256 s;
+      pc = wordOf (byte s 256) (byte s 257);
+      divider = byte s 258;
+      t0 = timerOf (byte s 259) (byte s 260);
+      t1 = timerOf (byte s 261) (byte s 262);
+      port3 = byte s 263;
+      tout = eqb (byte s 264) 1;
+      kind = byte s 265;
+      cost = byte s 266;
+    }
+
+unfoldable pub restOf : Machine → List ℕ
+restOf m =
+    highByte (m .pc)
+    ∷ lowByte (m .pc)
+    ∷ lowByte (m .divider)
+    ∷ lowByte (m .t0 .prescaler)
+    ∷ lowByte (m .t0 .counter)
+    ∷ lowByte (m .t1 .prescaler)
+    ∷ lowByte (m .t1 .counter)
+    ∷ m .port3
+    ∷ oneIf (m .tout)
+    ∷ m .kind
+    ∷ m .cost
+    ∷ 0
+    ∷ []
+
+unfoldable pub savedOf : Machine → List ℕ
+savedOf m = m .regs ++ restOf m
+
+-- "Legal: divider 0 to 3; prescalers 1 to 64;"
+unfoldable pub countsFit : ℕ → ℕ → ℕ → Bool
+countsFit divider prescaler0 prescaler1 = leb divider 3 && leb 1 prescaler0 && leb prescaler0 64 && leb 1 prescaler1 && leb prescaler1 64
+
+-- "entry cost 6 to 63; T_OUT 0 or 1; type 1 or 11; byte 267 zero;"
+unfoldable pub ownFit : ℕ → ℕ → ℕ → ℕ → Bool
+ownFit cost tout kind spare = isCost cost && leb tout 1 && isKind kind && eqb spare 0
+
+-- "places 80 to EF and F0 (hexadecimal) zero;" (113 places from 80)
+abbrev pub zeros : List ℕ → ℕ → ℕ → Bool
+zeros s i zero = true
+zeros s i (suc n) = eqb (byte s i) 0 && zeros s (i + 1) n
+
+unfoldable pub holesEmpty : List ℕ → Bool
+holesEmpty s = zeros s 0x80 113
+
+-- "bits 0 and 2 of TMR, 6 and 7 of IRQ, and 0 to 3 of RP zero."
+unfoldable pub bitsClear : ℕ → ℕ → ℕ → Bool
+bitsClear tmr irq rp = eqb (bitOf 0 tmr) 0 && eqb (bitOf 2 tmr) 0 && eqb (bitOf 6 irq) 0 && eqb (bitOf 7 irq) 0 && eqb (lower rp) 0
+
+unfoldable pub legalOf : List ℕ → Bool
+legalOf s =
+    countsFit (byte s 258) (byte s 259) (byte s 261)
+    && ownFit (byte s 266) (byte s 264) (byte s 265) (byte s 267)
+    && holesEmpty s
+    && bitsClear (byte s 0xF1) (byte s 0xFA) (byte s 0xFD)
+
+-- refusal 7, "saved machine not 268 bytes", and then 6, "saved machine not legal"
+unfoldable pub refusalOf : List ℕ → ℕ
+refusalOf s = pick (eqb (length s) 268) (pick (legalOf s) 0 6) 7
+
+unfoldable pub loadOf : List ℕ → Loaded
+loadOf s = record { refusal = refusalOf s; machine = pick (eqb (refusalOf s) 0) (machineOf s) standardOf }

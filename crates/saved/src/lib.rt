@@ -1,0 +1,212 @@
+// A machine as 268 bytes, and back (01 "Numbers the encoder sees").
+ghost use mathlib.Core.Path.{_≡_};
+ghost use mathlib.Core.List.{_++_};
+ghost use lib.ListN.{length, take, drop};
+ghost use Rattle.word.specs.Choose.{oneIf};
+ghost use Rattle.word.specs.Fields.{lowByte};
+ghost use Rattle.saved.specs.Saved.{timerOf, restOf, machineOf, savedOf, countsFit, ownFit, holesEmpty, bitsClear, legalOf, refusalOf, loadOf};
+use machine::Machine;
+use timers::Timer;
+
+// What a saved machine loads to: a refusal's number, 7 or 6, or 0 and the machine. (A refused answer holds the standard machine, as it
+// has to hold one.)
+pub struct Loaded {
+    pub refusal: u8,
+    pub machine: Machine,
+}
+
+// The first 256 bytes.
+fn file_of(saved: &[u8]) -> [u8; 256]
+    requires { ⌜ length (now saved) ≡ 268 ⌝ }
+    ensures { λ r. ⌜ r ≡ take 256 (now (saved .entry)) ⌝ }
+{
+    let mut file = [0u8; 256];
+    let mut i: usize = 0;
+    while i < 256 {
+        file[i] = saved[i];
+        i = i + 1;
+    }
+    file
+}
+
+fn wide(b: u8) -> u32
+    ensures { λ r. ⌜ r ≡ b ⌝ }
+{
+    b as u32
+}
+
+// A counter of 256 is saved as 0.
+fn timer_of(prescaler: u8, counter: u8) -> Timer
+    ensures { λ r. ⌜ r ≡ timerOf prescaler counter ⌝ }
+{
+    let left = timers::registers::or_highest(256, counter);
+    Timer {
+        prescaler: wide(prescaler),
+        counter: left,
+    }
+}
+
+fn machine_of(saved: &[u8]) -> Machine
+    requires { ⌜ length (now saved) ≡ 268 ⌝ }
+    ensures { λ m. ⌜ m ≡ machineOf (now (saved .entry)) ⌝ }
+{
+    let regs = file_of(saved);
+    let pc = word::word(saved[256], saved[257]);
+    let divider = wide(saved[258]);
+    let t0 = timer_of(saved[259], saved[260]);
+    let t1 = timer_of(saved[261], saved[262]);
+    Machine {
+        regs,
+        pc,
+        divider,
+        t0,
+        t1,
+        port3: saved[263],
+        tout: saved[264] == 1,
+        kind: saved[265],
+        cost: saved[266],
+    }
+}
+
+// "divider 0 to 3; prescalers 1 to 64"
+fn counts_fit(divider: u8, prescaler0: u8, prescaler1: u8) -> bool
+    ensures { λ r. ⌜ r ≡ countsFit divider prescaler0 prescaler1 ⌝ }
+{
+    (divider <= 3) & (1 <= prescaler0) & (prescaler0 <= 64) & (1 <= prescaler1) & (prescaler1 <= 64)
+}
+
+// "entry cost 6 to 63; T_OUT 0 or 1; type 1 or 11; byte 267 zero"
+fn own_fit(cost: u8, tout: u8, kind: u8, spare: u8) -> bool
+    ensures { λ r. ⌜ r ≡ ownFit cost tout kind spare ⌝ }
+{
+    (Machine::LEAST_COST <= cost)
+        & (cost <= Machine::MOST_COST)
+        & (tout <= 1)
+        & ((kind == Machine::Z8601) | (kind == Machine::Z8611))
+        & (spare == 0)
+}
+
+// "places 80 to EF and F0 (hexadecimal) zero"
+fn holes_empty(saved: &[u8]) -> bool
+    requires { ⌜ length (now saved) ≡ 268 ⌝ }
+    ensures { λ r. ⌜ r ≡ holesEmpty (now (saved .entry)) ⌝ }
+{
+    let mut i: usize = 0x80;
+    while i < 0xF1 {
+        if saved[i] != 0 {
+            return false;
+        }
+        i = i + 1;
+    }
+    true
+}
+
+// "bits 0 and 2 of TMR, 6 and 7 of IRQ, and 0 to 3 of RP zero"
+fn bits_clear(tmr: u8, irq: u8, rp: u8) -> bool
+    ensures { λ r. ⌜ r ≡ bitsClear tmr irq rp ⌝ }
+{
+    let load0 = word::bit(0, tmr);
+    let load1 = word::bit(2, tmr);
+    let request6 = word::bit(6, irq);
+    let request7 = word::bit(7, irq);
+    let low = word::lower(rp);
+    (load0 == 0) & (load1 == 0) & (request6 == 0) & (request7 == 0) & (low == 0)
+}
+
+fn is_legal(saved: &[u8]) -> bool
+    requires { ⌜ length (now saved) ≡ 268 ⌝ }
+    ensures { λ r. ⌜ r ≡ legalOf (now (saved .entry)) ⌝ }
+{
+    let counts = counts_fit(saved[258], saved[259], saved[261]);
+    let own = own_fit(saved[266], saved[264], saved[265], saved[267]);
+    let holes = holes_empty(saved);
+    let bits = bits_clear(saved[0xF1], saved[0xFA], saved[0xFD]);
+    counts & own & holes & bits
+}
+
+// Whether bytes are a saved machine: 0, or the refusal's number, 7 or 6.
+pub fn check(saved: &[u8]) -> u8
+    ensures { λ r. ⌜ r ≡ refusalOf (now (saved .entry)) ⌝ }
+{
+    if saved.len() != 268 {
+        return 7;
+    }
+    let legal = is_legal(saved);
+    if legal { 0 } else { 6 }
+}
+
+pub fn load(saved: &[u8]) -> Loaded
+    ensures { λ r. ⌜ r ≡ loadOf (now (saved .entry)) ⌝ }
+{
+    let refusal = check(saved);
+    if refusal != 0 {
+        let machine = Machine::standard();
+        return Loaded { refusal, machine };
+    }
+    let machine = machine_of(saved);
+    Loaded {
+        refusal: 0,
+        machine,
+    }
+}
+
+fn put_file(saved: &mut [u8], file: [u8; 256])
+    requires { ⌜ length (now saved) ≡ 268 ⌝ }
+    ensures { λ _. ⌜ now (saved .exit) ≡ file ++ drop 256 (now (saved .entry)) ⌝ }
+{
+    let mut i: usize = 0;
+    while i < 256 {
+        saved[i] = file[i];
+        i = i + 1;
+    }
+}
+
+fn low(n: u32) -> u8
+    ensures { λ r. ⌜ r ≡ lowByte n ⌝ }
+{
+    (n % 256) as u8
+}
+
+fn one_if(b: bool) -> u8
+    ensures { λ r. ⌜ r ≡ oneIf b ⌝ }
+{
+    if b { 1 } else { 0 }
+}
+
+fn put_rest(rest: &mut [u8], m: Machine)
+    requires { ⌜ length (now rest) ≡ 12 ⌝ }
+    ensures { λ _. ⌜ now (rest .exit) ≡ restOf m ⌝ }
+{
+    let t0 = m.t0;
+    let t1 = m.t1;
+    let pc_high = word::high_byte(m.pc);
+    let pc_low = word::low_byte(m.pc);
+    let divider = low(m.divider);
+    let prescaler0 = low(t0.prescaler);
+    let counter0 = low(t0.counter);
+    let prescaler1 = low(t1.prescaler);
+    let counter1 = low(t1.counter);
+    let tout = one_if(m.tout);
+    rest[0] = pc_high;
+    rest[1] = pc_low;
+    rest[2] = divider;
+    rest[3] = prescaler0;
+    rest[4] = counter0;
+    rest[5] = prescaler1;
+    rest[6] = counter1;
+    rest[7] = m.port3;
+    rest[8] = tout;
+    rest[9] = m.kind;
+    rest[10] = m.cost;
+    rest[11] = 0;
+}
+
+// A machine into its 268 bytes.
+pub fn save(saved: &mut [u8], m: Machine)
+    requires { ⌜ length (now saved) ≡ 268 ⌝ }
+    ensures { λ _. ⌜ now (saved .exit) ≡ savedOf m ⌝ }
+{
+    let file = m.regs;
+    put_file(saved, file);
+    put_rest(&mut saved[256..], m);
+}
