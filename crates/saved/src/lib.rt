@@ -4,6 +4,7 @@ ghost use mathlib.Core.List.{_++_};
 ghost use lib.ListN.{length, take, drop};
 ghost use Rattle.word.specs.Choose.{oneIf};
 ghost use Rattle.word.specs.Fields.{lowByte};
+ghost use Rattle.machine.specs.Legal.{Legal};
 ghost use Rattle.saved.specs.Saved.{timerOf, restOf, machineOf, savedOf, countsFit, ownFit, holesEmpty, bitsClear, legalOf, refusalOf, loadOf};
 use machine::Machine;
 use timers::Timer;
@@ -137,6 +138,7 @@ pub fn check(saved: &[u8]) -> u8
 
 pub fn load(saved: &[u8]) -> Loaded
     ensures { λ r. ⌜ r ≡ loadOf (now (saved .entry)) ⌝ }
+    ensures legal { λ r. ⌜ (r .refusal ≡ 0 → Legal (r .machine)) ⌝ }
 {
     let refusal = check(saved);
     if refusal != 0 {

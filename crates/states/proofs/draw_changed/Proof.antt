@@ -1,0 +1,59 @@
+use borrow.Author.Needs.{needs}
+use mathlib.Core.Path.{_≡_, _∙_, refl}
+use Prim.Native.Nat.{_+_, _-_, _*_, _%_, _≤_, _<_}
+use native.Mathlib.Omega.{arith}
+use lib.ListN.{length, length-set}
+use Rattle.states.proofs.draw_changed.Statement.{statement}
+use Rattle.states.proofs.draw_changed.Tie as tie
+use Rattle.states.proofs.draw_changed.Reads as reads
+use Rattle.states.proofs.draw_changed.Lts as lts
+use Rattle.states.proofs.drawn_byte.Reads as drawn-byte-reads
+
+abbrev Inv-loop : tie.InvT-loop
+Inv-loop s₀ i at k₀ s k = (k ≤ 268) × ((length s ≡ length s₀) × (268 ≤ length s₀))
+
+abbrev μ-loop : tie.MeasureT-loop
+μ-loop s₀ i at k₀ s k = 268 - k
+
+loop-holds : tie.Need-loop-holds Inv-loop μ-loop
+loop-holds c = (omega arith, (refl, search needs))
+
+drawn-byte-requires : tie.Need-drawn-byte-requires Inv-loop μ-loop
+drawn-byte-requires c κs = search needs
+
+cast-s : tie.Need-cast-s Inv-loop μ-loop
+cast-s c = search needs
+
+slice-write-s : tie.Need-slice-write-s Inv-loop μ-loop
+slice-write-s c = omega arith
+
+add-k : tie.Need-add-k Inv-loop μ-loop
+add-k c = omega arith
+
+loop-less : tie.Need-loop-less Inv-loop μ-loop
+loop-less c = omega arith
+
+loop-again : tie.Need-loop-again Inv-loop μ-loop
+loop-again c = (omega arith, (length-set (c .before .before .loop .s) (c .before .before .loop .k) _ ∙ c .before .before .loop .inv .1 .0, c .before .before .loop .inv .1 .1))
+
+same-length : tie.Need-same-length Inv-loop μ-loop
+same-length c = c .before .loop .inv .1 .0
+
+returns : tie.Need-returns Inv-loop μ-loop
+returns c = search needs
+
+pub draw-changed-spec : {M : Type 1} → statement M
+draw-changed-spec =
+    tie.close
+    (tie.spec
+    Inv-loop
+    μ-loop
+    loop-holds
+    drawn-byte-requires
+    cast-s
+    slice-write-s
+    add-k
+    loop-less
+    loop-again
+    same-length
+    returns)
