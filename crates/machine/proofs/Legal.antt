@@ -9,7 +9,7 @@ use lib.Dec.{T, eqb, ltb, leb, lit<, lit≤, ltb→lt}
 use lib.Bits.{bitAnd, bitOr, and-lt, or-lt}
 use lib.ListN.{length, getD, replicate}
 use Rattle.word.specs.Choose.{pick}
-use Rattle.word.specs.Fields.{upper, highByte, lowByte}
+use Rattle.word.specs.Fields.{upper, lower, highByte, lowByte}
 use Rattle.word.specs.Words.{plus}
 use Rattle.word.proofs.Computed.{by-test, below, at, under, and-left, and-right}
 use Rattle.timers.specs.Control.{Bytes, settingOf, kept}
@@ -22,14 +22,15 @@ use Rattle.machine.specs.State.{heldIn, placedIn, held, placed}
 use Rattle.machine.specs.Ports.{masked, port0Lines, port1Lines, port2Lines, port3Lines, linesOf, portStores, portReads, pinsOf, ofPort}
 use Rattle.machine.specs.Clock.{Ran, controlWith, controlOf, movingOf, enabling, countsAt, movedTo, writeTmr, spanOf, shown}
 use Rattle.machine.specs.Registers.{isHole, isWriteOnly, portLines, readPort, writePort, readReg, writeReg}
-use Rattle.machine.specs.Addresses.{evenOf, writePair}
-use Rattle.machine.specs.Stack.{Stacked, spl, spOf, spSet, writtenFrom, pushedInside, pushedOutside, pushed, raised, isInside}
-use Rattle.machine.specs.Start.{Place, placedAll, resetPlaces, resetOf, newOf, blank, isKind, isCost}
-use Rattle.machine.specs.Legal.{mayHold, LegalFile, Legal, LegalPins}
-use Rattle.machine.specs.Memory.{listOf}
+use Rattle.machine.specs.Addresses.{workingAt, registerAt, indexedAt, evenOf, readPair, writePair}
+use Rattle.machine.specs.Stack.{Stacked, spl, spOf, spSet, writtenFrom, pushedInside, pushedOutside, pushed, stackByte, raised, isInside}
+use Rattle.machine.specs.Start.{Place, placedAll, resetPlaces, resetOf, newOf, startedWith, standardOf, madeOf, isKind, isCost}
+use Rattle.machine.specs.Legal.{mayHold, LegalFile, Legal}
+use Rattle.machine.specs.Memory.{programByte, dataStart, dataByte, listOf}
 use Rattle.machine.specs.declared.Machine.{Machine}
 use Rattle.machine.specs.declared.Bytes as bytes
 use Rattle.machine.specs.declared.Pins.{Pins}
+use Rattle.machine.specs.declared.start.Made.{Made}
 use Rattle.machine.specs.declared.ports.Directions.{Directions}
 use Rattle.machine.proofs.Places.{place-long, held-same, held-other, each-placed}
 use Rattle.machine.proofs.Lens.{span-is, every}
@@ -75,7 +76,7 @@ placed-legal a v l h byte may =
             counting1 = recounted (l .moving .counting1);
             irq-high = irq-small _ (f .bytes 0xFA) (f .places 0xFA);
           };
-      port3-byte = l .port3-byte;
+      last3-byte = l .last3-byte;
       kind = l .kind;
       cost = l .cost;
     }
@@ -93,12 +94,19 @@ counts-legal x l k =
             counting1 = recounted (k .counting1);
             irq-high = l .moving .irq-high;
           };
-      port3-byte = l .port3-byte;
+      last3-byte = l .last3-byte;
       kind = l .kind;
       cost = l .cost;
     }
 
 -- ---- ports
+-- the pins given with a call are bytes
+pub record LegalPins (p : Pins) : Type 0 where
+  pub port0-byte : p .port0 < 256
+  pub port1-byte : p .port1 < 256
+  pub port2-byte : p .port2 < 256
+  pub port3-byte : p .port3 < 256
+
 -- bits of two bytes, by a mask of one
 masked-byte : (mask a b : ℕ) → mask < 256 → a < 256 → b < 256 → masked mask a b < 256
 unfolding masked
@@ -258,10 +266,10 @@ all-placed (p ∷ ps) t f =
     (ltb→lt (p .byte) 256 (and-left (ltb (p .byte) 256) (mayHold (p .address) (p .byte)) more))
     (and-right (ltb (p .byte) 256) (mayHold (p .address) (p .byte)) more))
 
--- reset makes of any machine with a legal file, a type and an entry cost a legal one
-reset-from : (m : Machine) → LegalFile (m .regs) → T (isKind (m .kind)) → T (isCost (m .cost)) → Legal (resetOf m)
-unfolding resetOf resetPlaces mayHold movingOf
-reset-from m f k c =
+-- a legal file, a type and an entry cost make a legal machine
+started-legal : (file : List ℕ) (kind cost : ℕ) → LegalFile file → T (isKind kind) → T (isCost cost) → Legal (startedWith file kind cost)
+unfolding resetPlaces mayHold movingOf
+started-legal file kind cost f k c =
     let after = all-placed resetPlaces tt f in
     record {
       file = after;
@@ -273,13 +281,14 @@ reset-from m f k c =
             counting1 = record { prescaler-low = lit< tt; prescaler-high = lit≤ tt; counter-low = lit< tt; counter-high = lit≤ tt };
             irq-high = irq-small _ (after .bytes 0xFA) (after .places 0xFA);
           };
-      port3-byte = lit< tt;
+      last3-byte = lit< tt;
       kind = k;
       cost = c;
     }
 
 pub reset-legal : (m : Machine) → Legal m → Legal (resetOf m)
-reset-legal m l = reset-from m (l .file) (l .kind) (l .cost)
+unfolding resetOf
+reset-legal m l = started-legal (m .regs) (m .kind) (m .cost) (l .file) (l .kind) (l .cost)
 
 -- a file of zeros
 zero-held : (n a : ℕ) → _≡_ {A = ℕ} (getD (replicate n 0) a 0) 0
@@ -303,7 +312,7 @@ zeros-legal =
 
 pub new-legal : (kind cost : ℕ) → T (isKind kind) → T (isCost cost) → Legal (newOf kind cost)
 unfolding newOf
-new-legal kind cost k c = reset-from (blank kind cost) zeros-legal k c
+new-legal kind cost k c = started-legal (replicate 256 0) kind cost zeros-legal k c
 
 -- ---- cycles
 enabling-may : (a b : Bool) (x : ℕ) → x < 256 → T (mayHold 0xF1 x) → (enabling x a b < 256) × T (mayHold 0xF1 (enabling x a b))
@@ -332,3 +341,49 @@ unfolding shown
 span-legal {m} n l =
     rw (span-is m (l .file .long) (l .file .bytes 0xF1) n)
     (moved-legal (cycles (settingOf (controlOf m)) n (movingOf m) .now) l (cycles-legal (settingOf (controlOf m)) (setting-of l) n (movingOf m) (l .moving)))
+
+pub standard-legal : Legal standardOf
+unfolding standardOf
+standard-legal = new-legal 11 20 tt tt
+
+pub made-legal : (kind cost : ℕ) → Legal (madeOf kind cost .machine)
+unfolding madeOf
+made-legal kind cost = go (isKind kind && isCost cost) refl
+  where
+    go : (b : Bool) → isKind kind && isCost cost ≡ b
+        → Legal (pick {A = Made} b (record { refusal = 0; machine = newOf kind cost }) (record { refusal = 3; machine = standardOf }) .machine)
+    go true e =
+        let t : T (isKind kind && isCost cost) = rw e tt in
+        new-legal kind cost (and-left (isKind kind) (isCost cost) t) (and-right (isKind kind) (isCost cost) t)
+    go false e = standard-legal
+
+-- ---- addresses, words and bytes read
+pub working-byte : (m : Machine) (x : ℕ) → Legal m → x < 16 → workingAt m x < 256
+unfolding workingAt
+working-byte m x l h = omega (arith, l .file .bytes 0xFD)
+
+pub register-byte : (m : Machine) (b : ℕ) → Legal m → b < 256 → registerAt m b < 256
+unfolding registerAt
+register-byte m b l h = by-test (λ a. a < 256) (eqb (upper b) 0x0E) (λ t. working-byte m (lower b) l (omega arith)) (λ t. h)
+
+pub indexed-byte : (p : Pins) (m : Machine) (offset x : ℕ) → indexedAt p m offset x < 256
+unfolding indexedAt
+indexed-byte p m offset x = omega arith
+
+pub pair-word : (p : Pins) (m : Machine) (a : ℕ) → Legal m → LegalPins p → readPair p m a < 65536
+unfolding readPair
+pair-word p m a l lp = omega (arith, read-byte l p (evenOf a) lp, read-byte l p (evenOf a + 1) lp)
+
+-- of memories that hold bytes
+pub program-byte : (image : List ℕ) (a : ℕ) → ((i : ℕ) → getD image i 0xFF < 256) → programByte image a < 256
+unfolding programByte
+program-byte image a bytes = bytes a
+
+pub data-byte : (kind : ℕ) (mem : List ℕ) (a : ℕ) → ((i : ℕ) → getD mem i 0xFF < 256) → dataByte kind mem a < 256
+unfolding dataByte
+data-byte kind mem a bytes = by-test (λ v. v < 256) (ltb a (dataStart kind)) (λ t. lit< tt) (λ t. bytes a)
+
+pub stack-byte : (p : Pins) (m : Machine) (mem : List ℕ) (i : ℕ) → Legal m → LegalPins p → ((i : ℕ) → getD mem i 0xFF < 256) → stackByte p m mem i < 256
+unfolding stackByte
+stack-byte p m mem i l lp bytes =
+    by-test (λ v. v < 256) (isInside m) (λ t. read-byte l p ((spl m + i) % 256) lp) (λ t. data-byte (m .kind) mem (plus (spOf m) i) bytes)

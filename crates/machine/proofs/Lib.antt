@@ -1,7 +1,7 @@
 pub mod Choices
 pub mod Elements
 pub mod Places
-pub mod Holes
+pub mod Ranges
 pub mod Lens
 pub mod Legal
 pub mod Theorems

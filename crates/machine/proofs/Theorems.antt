@@ -6,15 +6,16 @@ use mathlib.Core.Logic.{_≢_}
 use Prim.Native.Nat.{ℕ, zero, suc, _+_, _*_, _/_, _%_, _^_, _≤_, _<_}
 use native.Mathlib.Omega.{arith}
 use borrow.Author.Tests.{eqb-true, eq-eqb, ne-eqb}
-use lib.Dec.{eqb, ltb}
+use lib.Dec.{eqb, ltb, eqb→eq}
 use lib.ListN.{length}
 use lib.Bits.{bitAnd, bitOr, or-mod, or-zero-r}
-use Rattle.word.proofs.Computed.{by-test}
+use Rattle.word.specs.Fields.{bitOf, lower}
+use Rattle.word.proofs.Computed.{by-test, agree}
 use Rattle.timers.specs.Iter.{iter}
 use Rattle.timers.specs.Requests.{latch}
 use Rattle.timers.specs.Control.{settingOf, setupOf}
 use Rattle.timers.specs.Timer.{ticked}
-use Rattle.timers.specs.Clock.{endOf, both, cycle, cycles, begun, atDivider, Which, T0, T1, setupFor, countingFor, endsFor, gone, Steady}
+use Rattle.timers.specs.Clock.{written, endOf, both, cycle, cycles, begun, atDivider, Which, T0, T1, setupFor, countingFor, endsFor, gone, Steady}
 use Rattle.timers.specs.declared.Setup.{Setup}
 use Rattle.timers.specs.declared.Setting.{Setting}
 use Rattle.timers.specs.declared.Source.{Source}
@@ -24,18 +25,19 @@ use Rattle.timers.specs.declared.Moving.{Moving}
 use Rattle.timers.specs.declared.Spanned.{Spanned}
 use Rattle.timers.proofs.Iterate.{iter-keeps}
 use Rattle.timers.proofs.Formula.{formula}
+use Rattle.timers.proofs.Legal.{cycles-legal}
 use Rattle.machine.specs.State.{coreOf, held, placed}
 use Rattle.machine.specs.Clock.{Ran, controlWith, controlOf, movingOf, countsAt, movedTo, writeTmr, shown, spanOf}
 use Rattle.machine.specs.Registers.{isHole, readReg, writePort, writeReg}
-use Rattle.machine.specs.Addresses.{workingAt, registerAt}
-use Rattle.machine.specs.Legal.{Legal}
+use Rattle.machine.specs.Addresses.{workingAt, registerAt, indirectAt}
+use Rattle.machine.specs.Legal.{mayHold, Legal}
 use Rattle.machine.specs.declared.Machine.{Machine}
 use Rattle.machine.specs.declared.Core.{Core}
 use Rattle.machine.specs.declared.Pins.{Pins}
 use Rattle.machine.proofs.Places.{held-other}
-use Rattle.machine.proofs.Holes.{hole-reads, hole-drops}
+use Rattle.machine.proofs.Ranges.{hole-reads, hole-drops}
 use Rattle.machine.proofs.Lens.{put-tmr, put-irq, put-other, rest-kept, span-is}
-use Rattle.machine.proofs.Legal.{setting-of}
+use Rattle.machine.proofs.Legal.{setting-of, irq-small}
 
 -- a store to register a leaves every other place
 pub store-leaves : (m : Machine) (a v b : ℕ) → b ≢ a → held (writeReg m a v) b ≡ held m b
@@ -63,14 +65,36 @@ store-leaves-core m a v n =
     S : Machine → Type 0
     S k = coreOf k ≡ coreOf m
 
--- RP E0: a field Ex leads to the hole Ex and not on through the Ex rule again
-pub hole-group : (p : Pins) (m : Machine) (x v : ℕ) → held m 0xFD ≡ 0xE0 → x < 16
-    → (registerAt m (0xE0 + x) ≡ 0xE0 + x) × (readReg p m (0xE0 + x) ≡ 0xFF) × (writeReg m (0xE0 + x) v ≡ m)
+-- a store to TMR leaves all that is no place but the counts and T_OUT: "The divider isn't touched."
+pub tmr-store-leaves : (m : Machine) (v : ℕ)
+    → (writeReg m 0xF1 v .pc ≡ m .pc) × (writeReg m 0xF1 v .divider ≡ m .divider) × (writeReg m 0xF1 v .last3 ≡ m .last3)
+    × (writeReg m 0xF1 v .kind ≡ m .kind) × (writeReg m 0xF1 v .cost ≡ m .cost)
+unfolding writeReg writeTmr countsAt placed written movingOf
+tmr-store-leaves m v = (refl, refl, refl, refl, refl)
+
+-- an address Ex that is found inside a register is that hole, whatever RP is: the Ex rule isn't applied to it
+pub found-as-it-is : (p : Pins) (m : Machine) (b x v : ℕ) → readReg p m (registerAt m b) ≡ 0xE0 + x → x < 16
+    → (readReg p m (indirectAt p m b) ≡ 0xFF) × (writeReg m (indirectAt p m b) v ≡ m)
+unfolding indirectAt
+found-as-it-is p m b x v e h =
+    (rw e (sym (hole-reads p m (0xE0 + x) (omega arith) (omega arith))), rw e (sym (hole-drops m (0xE0 + x) v (omega arith) (omega arith))))
+
+-- and with RP E0 a field Ex is that hole too
+pub hole-group : (m : Machine) (x : ℕ) → held m 0xFD ≡ 0xE0 → x < 16 → registerAt m (0xE0 + x) ≡ 0xE0 + x
 unfolding registerAt workingAt
-hole-group p m x v e h =
+hole-group m x e h =
     let work : (0xE0 + x) / 16 ≡ 0x0E = omega arith in
     let low : (0xE0 + x) % 16 ≡ x = omega arith in
-    (rw (e, work, low), sym (hole-reads p m (0xE0 + x) (omega arith) (omega arith)), sym (hole-drops m (0xE0 + x) v (omega arith) (omega arith)))
+    rw (e, work, low)
+
+-- the bits that a legal machine hasn't read 0: IRQ's 6 and 7 (004, 10.8), RP's low nibble (HOUSE), IMR's 6 (004, 10.8) in any machine
+pub unheld-bits : (p : Pins) (m : Machine) → Legal m → (readReg p m 0xFA < 64) × (lower (readReg p m 0xFD) ≡ 0) × (bitOf 6 (readReg p m 0xFB) ≡ 0)
+unfolding readReg mayHold
+unheld-bits p m l = (
+  irq-small (held m 0xFA) (l .file .bytes 0xFA) (l .file .places 0xFA),
+  eqb→eq (lower (held m 0xFD)) 0 (l .file .places 0xFD),
+  agree (λ v. bitOf 6 (bitAnd v 0xBF)) (λ v. 0) 256 refl (held m 0xFB) (l .file .bytes 0xFB),
+)
 
 -- ---- a span
 -- no end touches requests 0 to 3
@@ -103,19 +127,24 @@ module _ (m : Machine) where
   unfolding cycles
   cycles-leave n = iter-keeps (cycle set) (Low (movingOf m .lines .irq)) (cycle-leaves (movingOf m .lines .irq)) n (begun (movingOf m)) refl
 
+-- of a request byte below 64, all but requests 4 and 5
+low-bits : (x : ℕ) → x < 64 → bitAnd x 0xCF ≡ x % 16
+low-bits x h = agree (λ y. bitAnd y 0xCF) (λ y. y % 16) 64 refl x h
+
 -- all that a span moves: the divider, the counts, T_OUT, the enable bits of TMR, requests 4 and 5
 pub record SpanLeaves (m k : Machine) : Type 0 where
   pub places : (a : ℕ) → (a ≡ 0xF1 → ⊥) → (a ≡ 0xFA → ⊥) → held k a ≡ held m a
   pub tmr-but-enables : bitAnd (held k 0xF1) 0xF5 ≡ bitAnd (held m 0xF1) 0xF5
-  pub requests-0-to-3 : held k 0xFA % 16 ≡ held m 0xFA % 16
+  pub irq-but-requests-4-and-5 : bitAnd (held k 0xFA) 0xCF ≡ bitAnd (held m 0xFA) 0xCF
   pub pc : k .pc ≡ m .pc
-  pub port3 : k .port3 ≡ m .port3
+  pub last3 : k .last3 ≡ m .last3
   pub kind : k .kind ≡ m .kind
   pub cost : k .cost ≡ m .cost
 
 pub span-leaves : (m : Machine) → Legal m → (n : ℕ) → SpanLeaves m (spanOf n m .machine)
 unfolding movingOf movedTo placed countsAt shown
-span-leaves m l n = rw (span-is m long byte n) (moved-leaves (cycles (settingOf (controlOf m)) n (movingOf m) .now) (cycles-leave m n))
+span-leaves m l n = rw (span-is m long byte n) (moved-leaves (cycles (settingOf (controlOf m)) n (movingOf m) .now) (cycles-leave m n)
+    (cycles-legal (settingOf (controlOf m)) (setting-of l) n (movingOf m) (l .moving) .irq-high))
   where
     long : length (m .regs) ≡ 256
     long = l .file .long
@@ -123,14 +152,15 @@ span-leaves m l n = rw (span-is m long byte n) (moved-leaves (cycles (settingOf 
     byte : held m 0xF1 < 256
     byte = l .file .bytes 0xF1
 
-    moved-leaves : (x : Moving) → x .lines .irq % 16 ≡ movingOf m .lines .irq % 16 → SpanLeaves m (movedTo m x)
-    moved-leaves x e =
+    moved-leaves : (x : Moving) → x .lines .irq % 16 ≡ movingOf m .lines .irq % 16 → x .lines .irq < 64 → SpanLeaves m (movedTo m x)
+    moved-leaves x e h =
         record {
           places = put-other m long byte x;
           tmr-but-enables = ap (λ (t : ℕ). bitAnd t 0xF5) (put-tmr m long byte x) ∙ rest-kept (x .t0 .enabled) (x .t1 .enabled) (held m 0xF1) byte;
-          requests-0-to-3 = ap (λ (i : ℕ). i % 16) (put-irq m long byte x) ∙ e;
+          irq-but-requests-4-and-5 =
+              ap (λ (i : ℕ). bitAnd i 0xCF) (put-irq m long byte x) ∙ low-bits (x .lines .irq) h ∙ e ∙ sym (low-bits (held m 0xFA) (l .moving .irq-high));
           pc = refl;
-          port3 = refl;
+          last3 = refl;
           kind = refl;
           cost = refl;
         }

@@ -16,7 +16,7 @@ workingAt m x = upper (held m 0xFD) * 16 + x
 unfoldable pub registerAt : Machine → ℕ → ℕ
 registerAt m b = pick (eqb (upper b) 0x0E) (workingAt m (lower b)) b
 
--- IR and Ir: "An address found inside a register is taken as it is."
+-- IR and Ir: "An address found inside a register is taken as it is." What serves as one is what the register reads.
 unfoldable pub indirectAt : Pins → Machine → ℕ → ℕ
 indirectAt p m b = readReg p m (registerAt m b)
 
@@ -25,9 +25,9 @@ workingIndirectAt p m x = readReg p m (workingAt m x)
 
 -- X: "An indexed address is offset plus index register, modulo 256, with no Ex rule (HOUSE)."
 unfoldable pub indexedAt : Pins → Machine → ℕ → ℕ → ℕ
-indexedAt p m offset x = (offset + readReg p m (workingAt m x)) % 256
+indexedAt p m offset x = (offset + workingIndirectAt p m x) % 256
 
--- "A pair address drops its lowest bit (HOUSE); the even register is the high byte."
+-- "A pair address drops its lowest bit (HOUSE); the even register is the high byte." The address is a field's (`registerAt`, `workingAt`).
 abbrev pub evenOf : ℕ → ℕ
 evenOf a = a / 2 * 2
 

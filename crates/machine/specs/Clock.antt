@@ -3,13 +3,13 @@ use mathlib.Core.Bool.{Bool}
 use mathlib.Core.List.{List}
 use Prim.Native.Nat.{ℕ}
 use lib.Bits.{bitAnd, bitOr}
-use Rattle.word.specs.Choose.{pick}
 use Rattle.timers.specs.Iter.{iter}
 use Rattle.timers.specs.Control.{settingOf, enable0, enable1, kept}
 use Rattle.timers.specs.Clock.{cycle, written}
 use Rattle.timers.specs.declared.Control.{Control}
 use Rattle.timers.specs.declared.Moving.{Moving}
 use Rattle.timers.specs.declared.Spanned.{Spanned}
+use Rattle.machine.specs.Ports.{bitsIf}
 use Rattle.machine.specs.State.{whole, coreOf, held, placed}
 use Rattle.machine.specs.declared.Machine.{Machine}
 use Rattle.machine.specs.declared.Core.{Core}
@@ -18,7 +18,7 @@ use Rattle.machine.specs.declared.clock.Clocked.{Clocked}
 -- what the timers read, with this byte for TMR: registers F2 to F5 hold start values and prescalers; "P31 is as in the last pins"
 unfoldable pub controlWith : Machine → ℕ → Control
 controlWith m tmr =
-    record { tmr = tmr; t1 = held m 0xF2; pre1 = held m 0xF3; t0 = held m 0xF4; pre0 = held m 0xF5; port3 = m .port3 }
+    record { tmr = tmr; t1 = held m 0xF2; pre1 = held m 0xF3; t0 = held m 0xF4; pre0 = held m 0xF5; port3 = m .last3 }
 
 unfoldable pub controlOf : Machine → Control
 controlOf m = controlWith m (held m 0xF1)
@@ -35,9 +35,9 @@ movingOf m =
 
 -- TMR with these enable bits, 1 for T0 and 3 for T1
 unfoldable pub enabling : ℕ → Bool → Bool → ℕ
-enabling tmr on0 on1 = bitOr (bitAnd tmr 0xF5) (bitOr (pick on0 0x02 0) (pick on1 0x08 0))
+enabling tmr on0 on1 = bitOr (bitAnd tmr 0xF5) (bitOr (bitsIf on0 0x02) (bitsIf on1 0x08))
 
--- the machine with other counts: divider, both timers, T_OUT
+-- a machine, as its rest and whole, with other counts: divider, both timers, T_OUT
 abbrev pub coreAt : Core → Moving → Core
 coreAt k x =
     record {
@@ -45,7 +45,7 @@ coreAt k x =
       divider = x .divider;
       t0 = x .t0 .timer;
       t1 = x .t1 .timer;
-      port3 = k .port3;
+      last3 = k .last3;
       tout = x .lines .tout;
       kind = k .kind;
       cost = k .cost;
@@ -73,13 +73,14 @@ pub record Ran : Type 0 where
 abbrev pub ranOf : List ℕ → Clocked → Ran
 ranOf file r = record { machine = whole file (r .k); ends0 = r .ends0; ends1 = r .ends1 }
 
--- one cycle of a machine
+-- what cycles move of it, and put back into a machine
 unfoldable pub seen : Ran → Spanned
 seen r = record { now = movingOf (r .machine); ends0 = r .ends0; ends1 = r .ends1 }
 
 unfoldable pub shown : Machine → Spanned → Ran
 shown m x = record { machine = movedTo m (x .now); ends0 = x .ends0; ends1 = x .ends1 }
 
+-- one cycle of a machine
 unfoldable pub cycleOf : Ran → Ran
 cycleOf r = shown (r .machine) (cycle (settingOf (controlOf (r .machine))) (seen r))
 

@@ -13,7 +13,6 @@ use Rattle.machine.specs.Registers.{isHole}
 use Rattle.machine.specs.Clock.{movingOf}
 use Rattle.machine.specs.Start.{isKind, isCost}
 use Rattle.machine.specs.declared.Machine.{Machine}
-use Rattle.machine.specs.declared.Pins.{Pins}
 
 -- what a place may hold: "places 80 to EF and F0 (hexadecimal) zero; bits 0 and 2 of TMR, 6 and 7 of IRQ, and 0 to 3 of RP zero"
 unfoldable pub mayHold : ℕ → ℕ → Bool
@@ -35,13 +34,6 @@ pub record Legal (m : Machine) : Type 0 where
   pub file : LegalFile (m .regs)
   pub pc-word : m .pc < 65536
   pub moving : LegalMoving (movingOf m)
-  pub port3-byte : m .port3 < 256
+  pub last3-byte : m .last3 < 256
   pub kind : T (isKind (m .kind))
   pub cost : T (isCost (m .cost))
-
--- the pins given with a call are bytes
-pub record LegalPins (p : Pins) : Type 0 where
-  pub port0-byte : p .port0 < 256
-  pub port1-byte : p .port1 < 256
-  pub port2-byte : p .port2 < 256
-  pub port3-byte : p .port3 < 256

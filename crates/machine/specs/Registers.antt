@@ -21,6 +21,10 @@ isHole a = leb 0x80 a && leb a 0xF0
 abbrev pub isWriteOnly : ℕ → Bool
 isWriteOnly a = eqb a 0xF3 || (leb 0xF5 a && leb a 0xF9)
 
+-- the general-purpose registers, R4 to R127, which are what they hold (004, 3.2)
+abbrev pub isGeneral : ℕ → Bool
+isGeneral a = leb 0x04 a && ltb a 0x80
+
 -- a port's directions, by P01M and P2M
 abbrev pub portLines : Machine → ℕ → Directions
 portLines m a = linesOf (held m 0xF8) (held m 0xF6) a
@@ -44,7 +48,7 @@ readReg p m a =
     (held m a))))))
 
 -- a store of v to register a: a hole drops it, TMR (F1) acts on its load bits, IRQ (FA) drops bits 6 and 7 (HOUSE), and RP (FD) its low
--- nibble, which "always reads 0 (HOUSE)"
+-- nibble, which "always reads 0 (HOUSE)". All others hold what is stored: "F2 and F4 hold start values".
 unfoldable pub writeReg : Machine → ℕ → ℕ → Machine
 writeReg m a v =
     pick (ltb a 0x04) (writePort m a v)

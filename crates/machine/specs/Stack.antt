@@ -45,10 +45,10 @@ writtenFrom m a (v ∷ vs) = writtenFrom (writeReg m a v) ((a + 1) % 256) vs
 
 -- bytes pushed, the lowest first. "SP is written first, then bytes upward in address order." Inside "SPL alone counts modulo 256 and R254
 -- stays. External uses the pair modulo 65,536."
-unfoldable pub pushedInside : Machine → List ℕ → Machine
-pushedInside m bytes =
-    let sp = (spl m + (256 - length bytes)) % 256 in
-    writtenFrom (placed m 0xFF sp) sp bytes
+unfoldable pub pushedInside : Machine → Bytes → Stacked
+pushedInside m b =
+    let sp = (spl m + (256 - length (listOf b))) % 256 in
+    record { machine = writtenFrom (placed m 0xFF sp) sp (listOf b); stores = Nothing }
 
 unfoldable pub pushedOutside : Machine → Bytes → Stacked
 pushedOutside m b =
@@ -57,13 +57,13 @@ pushedOutside m b =
 
 -- "Stack, its kind taken before anything is written"
 unfoldable pub pushed : Machine → Bytes → Stacked
-pushed m b = pick (isInside m) (record { machine = pushedInside m (listOf b); stores = Nothing }) (pushedOutside m b)
+pushed m b = pick (isInside m) (pushedInside m b) (pushedOutside m b)
 
--- the byte i above the top of the stack
+-- "RET, IRET and POP read, write SP, then load the destination." What they read, the byte i above the top of the stack
 unfoldable pub stackByte : Pins → Machine → List ℕ → ℕ → ℕ
 stackByte p m mem i =
     pick (isInside m) (readReg p m ((spl m + i) % 256)) (dataByte (m .kind) mem (plus (spOf m) i))
 
--- SP after n bytes are popped. "RET, IRET and POP read, write SP, then load the destination."
+-- and SP as they write it, for n bytes read
 unfoldable pub raised : Machine → ℕ → Machine
 raised m n = pick (isInside m) (placed m 0xFF ((spl m + n) % 256)) (spSet m (plus (spOf m) n))

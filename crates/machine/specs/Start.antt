@@ -1,5 +1,5 @@
 -- Reset, and the new machine (01 "One step", "Numbers the encoder sees"; 004, table 8-1). Assumes nothing.
-use mathlib.Core.Bool.{Bool, true, false, _&&_, _||_}
+use mathlib.Core.Bool.{Bool, true, _&&_, _||_}
 use mathlib.Core.List.{List, [], _∷_}
 use Prim.Native.Nat.{ℕ}
 use lib.Dec.{eqb, leb}
@@ -22,11 +22,11 @@ abbrev pub placedAll : List ℕ → List Place → List ℕ
 placedAll file [] = file
 placedAll file (p ∷ ps) = placedAll (placedIn file (p .address) (p .byte)) ps
 
--- the latches of ports 0 to 3, and F1 to FF: "P01M 4D, P2M FF; P3M, TMR, IRQ, IMR, PRE0, PRE1 [..] 0; other control bytes and latches 0"
+-- the latches of ports 0 to 3, and F0 to FF: "P01M 4D, P2M FF; P3M, TMR, IRQ, IMR, PRE0, PRE1 [..] 0; other control bytes and latches 0"
 unfoldable pub resetPlaces : List Place
 resetPlaces =
     holding 0x00 0 ∷ holding 0x01 0 ∷ holding 0x02 0 ∷ holding 0x03 0
-    ∷ holding 0xF1 0 ∷ holding 0xF2 0 ∷ holding 0xF3 0 ∷ holding 0xF4 0 ∷ holding 0xF5 0
+    ∷ holding 0xF0 0 ∷ holding 0xF1 0 ∷ holding 0xF2 0 ∷ holding 0xF3 0 ∷ holding 0xF4 0 ∷ holding 0xF5 0
     ∷ holding 0xF6 0xFF ∷ holding 0xF7 0 ∷ holding 0xF8 0x4D
     ∷ holding 0xF9 0 ∷ holding 0xFA 0 ∷ holding 0xFB 0 ∷ holding 0xFC 0 ∷ holding 0xFD 0 ∷ holding 0xFE 0 ∷ holding 0xFF 0
     ∷ []
@@ -35,40 +35,30 @@ resetPlaces =
 abbrev pub fullTimer : Timer
 fullTimer = record { prescaler = 64; counter = 256 }
 
--- "Reset: PC 000C, [the places above], divider 0; [..] T_OUT 1, [..] last pins all ones. R4 to R127, type and entry cost stay"
-unfoldable pub resetOf : Machine → Machine
-resetOf m =
+-- "Reset: PC 000C, [the places above,] divider 0; [..] T_OUT 1, prescalers 64, counters saved as 0, last pins all ones."
+abbrev pub startedWith : List ℕ → ℕ → ℕ → Machine
+startedWith file kind cost =
     record {
-      regs = placedAll (m .regs) resetPlaces;
+      regs = placedAll file resetPlaces;
       pc = 0x000C;
       divider = 0;
       t0 = fullTimer;
       t1 = fullTimer;
-      port3 = 0xFF;
+      last3 = 0xFF;
       tout = true;
-      kind = m .kind;
-      cost = m .cost;
-    }
-
--- "a new machine has R4 to R127 zero": a machine with nothing in its file, reset
-abbrev pub blank : ℕ → ℕ → Machine
-blank kind cost =
-    record {
-      regs = replicate 256 0;
-      pc = 0;
-      divider = 0;
-      t0 = fullTimer;
-      t1 = fullTimer;
-      port3 = 0;
-      tout = false;
       kind = kind;
       cost = cost;
     }
 
-unfoldable pub newOf : ℕ → ℕ → Machine
-newOf kind cost = resetOf (blank kind cost)
+-- "R4 to R127, type and entry cost stay"
+unfoldable pub resetOf : Machine → Machine
+resetOf m = startedWith (m .regs) (m .kind) (m .cost)
 
--- "A new machine: type 11 and entry cost 20 unless others are named (HOUSE)"
+-- "a new machine has R4 to R127 zero"
+unfoldable pub newOf : ℕ → ℕ → Machine
+newOf kind cost = startedWith (replicate 256 0) kind cost
+
+-- "A new machine: type 11 and entry cost 20 unless others are named"
 unfoldable pub standardOf : Machine
 standardOf = newOf 11 20
 

@@ -5,8 +5,8 @@ use lib.ListN.{getD, set}
 use Rattle.machine.specs.declared.Machine.{Machine}
 use Rattle.machine.specs.declared.Core.{Core}
 
--- "The register file is kept as 256 places in address order." What the place of register a holds, and the file with v in it: only these
--- two know the layout.
+-- "The register file is kept as 256 places in address order. Places 0 to 3 hold output latches, F2 and F4 hold start values". What the
+-- place of register a holds, and the file with v in it: only these two look up a place by its register's address.
 unfoldable pub heldIn : List ℕ → ℕ → ℕ
 heldIn file a = getD file a 0
 
@@ -22,7 +22,7 @@ whole file k =
       divider = k .divider;
       t0 = k .t0;
       t1 = k .t1;
-      port3 = k .port3;
+      last3 = k .last3;
       tout = k .tout;
       kind = k .kind;
       cost = k .cost;
@@ -35,7 +35,7 @@ coreOf m =
       divider = m .divider;
       t0 = m .t0;
       t1 = m .t1;
-      port3 = m .port3;
+      last3 = m .last3;
       tout = m .tout;
       kind = m .kind;
       cost = m .cost;

@@ -4,6 +4,7 @@ use crate::Pins;
 ghost use mathlib.Core.Path.{_≡_};
 ghost use Prim.Native.Nat.{_<_};
 ghost use Rattle.machine.specs.State.{whole};
+ghost use Rattle.machine.specs.Registers.{readReg};
 ghost use Rattle.machine.specs.Addresses.{workingAt, registerAt, indirectAt, workingIndirectAt, indexedAt, evenOf, readPair, writePair};
 
 // r: working register x of the group in RP.
@@ -26,12 +27,19 @@ pub fn register(regs: &[u8; 256], k: Core, b: u8) -> u8
     }
 }
 
+// The address or the index found in register a: what it reads, taken as it is.
+fn found(regs: &[u8; 256], k: Core, pins: Pins, a: u8) -> u8
+    ensures { λ r. ⌜ r ≡ readReg pins (whole (now (regs .entry)) k) a ⌝ }
+{
+    crate::registers::read(regs, k, pins, a)
+}
+
 // IR: the address found in the register of the field.
 pub fn indirect(regs: &[u8; 256], k: Core, pins: Pins, b: u8) -> u8
     ensures { λ r. ⌜ r ≡ indirectAt pins (whole (now (regs .entry)) k) b ⌝ }
 {
-    let a = register(regs, k, b);
-    crate::registers::read(regs, k, pins, a)
+    let field = register(regs, k, b);
+    found(regs, k, pins, field)
 }
 
 // Ir: the address found in working register x.
@@ -40,7 +48,7 @@ pub fn working_indirect(regs: &[u8; 256], k: Core, pins: Pins, x: u8) -> u8
     ensures { λ r. ⌜ r ≡ workingIndirectAt pins (whole (now (regs .entry)) k) x ⌝ }
 {
     let a = working(regs, k, x);
-    crate::registers::read(regs, k, pins, a)
+    found(regs, k, pins, a)
 }
 
 // X: offset plus what working register x reads.
@@ -48,8 +56,7 @@ pub fn indexed(regs: &[u8; 256], k: Core, pins: Pins, offset: u8, x: u8) -> u8
     requires { ⌜ x < 16 ⌝ }
     ensures { λ r. ⌜ r ≡ indexedAt pins (whole (now (regs .entry)) k) offset x ⌝ }
 {
-    let a = working(regs, k, x);
-    let index = crate::registers::read(regs, k, pins, a);
+    let index = working_indirect(regs, k, pins, x);
     std::num::wrapping_add_u8(offset, index)
 }
 

@@ -29,7 +29,7 @@ fn control_with(regs: &[u8; 256], k: Core, tmr: u8) -> Control
         pre1,
         t0,
         pre0,
-        port3: k.port3,
+        port3: k.last3,
     }
 }
 
@@ -91,7 +91,7 @@ fn core_at(k: Core, x: Moving) -> Core
         divider: x.divider,
         t0,
         t1,
-        port3: k.port3,
+        last3: k.last3,
         tout: lines.tout,
         kind: k.kind,
         cost: k.cost,

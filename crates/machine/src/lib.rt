@@ -10,8 +10,8 @@ pub mod start;
 
 use timers::Timer;
 ghost use mathlib.Core.Path.{_≡_};
-ghost use Rattle.word.specs.Choose.{pick};
 ghost use Rattle.machine.specs.State.{whole, coreOf};
+ghost use Rattle.machine.specs.Ports.{bitsIf};
 
 // 01's machine: the register file in address order, the program counter, the divider, both timers' counts in progress, the last Port 3
 // pins, the T_OUT level, the type (1 or 11) and the interrupt entry cost.
@@ -21,7 +21,7 @@ pub struct Machine {
     pub divider: u32,
     pub t0: Timer,
     pub t1: Timer,
-    pub port3: u8,
+    pub last3: u8,
     pub tout: bool,
     pub kind: u8,
     pub cost: u8,
@@ -33,7 +33,7 @@ pub struct Core {
     pub divider: u32,
     pub t0: Timer,
     pub t1: Timer,
-    pub port3: u8,
+    pub last3: u8,
     pub tout: bool,
     pub kind: u8,
     pub cost: u8,
@@ -70,7 +70,7 @@ pub fn core_of(m: Machine) -> Core
         divider: m.divider,
         t0,
         t1,
-        port3: m.port3,
+        last3: m.last3,
         tout: m.tout,
         kind: m.kind,
         cost: m.cost,
@@ -88,7 +88,7 @@ pub fn machine_of(regs: [u8; 256], k: Core) -> Machine
         divider: k.divider,
         t0,
         t1,
-        port3: k.port3,
+        last3: k.last3,
         tout: k.tout,
         kind: k.kind,
         cost: k.cost,
@@ -97,7 +97,7 @@ pub fn machine_of(regs: [u8; 256], k: Core) -> Machine
 
 // These bits where the test holds, else none.
 fn bits_if(test: bool, bits: u8) -> u8
-    ensures { λ r. ⌜ r ≡ pick test bits 0 ⌝ }
+    ensures { λ r. ⌜ r ≡ bitsIf test bits ⌝ }
 {
     if test { bits } else { 0 }
 }

@@ -1,5 +1,6 @@
 // Program and data memory.
 use crate::Bytes;
+use crate::Machine;
 use crate::Stores;
 ghost use mathlib.Core.Path.{_≡_};
 ghost use Rattle.machine.specs.Memory.{programByte, dataStart, dataByte, dataStored, listOf, storedFrom, storedIn};
@@ -16,7 +17,7 @@ pub fn program(image: &[u8], a: u16) -> u8
 fn data_start(kind: u8) -> u16
     ensures { λ r. ⌜ r ≡ dataStart kind ⌝ }
 {
-    if kind == 1 { 2048 } else { 4096 }
+    if kind == Machine::Z8601 { 2048 } else { 4096 }
 }
 
 // A byte of data memory.

@@ -3,13 +3,14 @@ use crate::Core;
 use crate::Pins;
 ghost use mathlib.Core.Path.{_≡_};
 ghost use Rattle.machine.specs.State.{heldIn, placedIn, whole};
-ghost use Rattle.machine.specs.Registers.{readPort, writePort, readReg, writeReg};
+ghost use Rattle.machine.specs.Registers.{isGeneral, readPort, writePort, readReg, writeReg};
 
-// What the place of register a holds. This function and the next alone know how the file is laid out.
+// What the place of register a holds. This function and the next alone look up a place by its register's address.
 pub fn held(regs: &[u8; 256], a: u8) -> u8
     ensures { λ r. ⌜ r ≡ heldIn (now (regs .entry)) a ⌝ }
 {
-    regs[a as usize]
+    let i = a as usize;
+    regs[i]
 }
 
 pub fn place(regs: &mut [u8; 256], a: u8, v: u8)
@@ -41,8 +42,15 @@ fn write_port(regs: &mut [u8; 256], k: Core, a: u8, v: u8) -> Core
     k
 }
 
-// What register a reads.
-pub fn read(regs: &[u8; 256], k: Core, pins: Pins, a: u8) -> u8
+// R4 to R127: what a program uses most is looked at first.
+fn is_general(a: u8) -> bool
+    ensures { λ r. ⌜ r ≡ isGeneral a ⌝ }
+{
+    (0x04 <= a) & (a < 0x80)
+}
+
+// What register a reads, whichever it is.
+fn read_any(regs: &[u8; 256], k: Core, pins: Pins, a: u8) -> u8
     ensures { λ r. ⌜ r ≡ readReg pins (whole (now (regs .entry)) k) a ⌝ }
 {
     let t0 = k.t0;
@@ -59,8 +67,19 @@ pub fn read(regs: &[u8; 256], k: Core, pins: Pins, a: u8) -> u8
     }
 }
 
-// A store of v to register a.
-pub fn write(regs: &mut [u8; 256], k: Core, a: u8, v: u8) -> Core
+// What register a reads.
+pub fn read(regs: &[u8; 256], k: Core, pins: Pins, a: u8) -> u8
+    ensures { λ r. ⌜ r ≡ readReg pins (whole (now (regs .entry)) k) a ⌝ }
+{
+    let general = is_general(a);
+    if general {
+        return held(regs, a);
+    }
+    read_any(regs, k, pins, a)
+}
+
+// A store of v to register a, whichever it is.
+fn write_any(regs: &mut [u8; 256], k: Core, a: u8, v: u8) -> Core
     ensures { λ r. ⌜ whole (now (regs .exit)) r ≡ writeReg (whole (now (regs .entry)) k) a v ⌝ }
 {
     match a {
@@ -80,4 +99,16 @@ pub fn write(regs: &mut [u8; 256], k: Core, a: u8, v: u8) -> Core
             k
         }
     }
+}
+
+// A store of v to register a.
+pub fn write(regs: &mut [u8; 256], k: Core, a: u8, v: u8) -> Core
+    ensures { λ r. ⌜ whole (now (regs .exit)) r ≡ writeReg (whole (now (regs .entry)) k) a v ⌝ }
+{
+    let general = is_general(a);
+    if general {
+        place(regs, a, v);
+        return k;
+    }
+    write_any(regs, k, a, v)
 }

@@ -72,15 +72,19 @@ fn write_from(regs: &mut [u8; 256], k: Core, a: u8, b: Bytes) -> Core
     }
 }
 
-fn push_inside(regs: &mut [u8; 256], k: Core, b: Bytes) -> Core
-    ensures { λ r. ⌜ whole (now (regs .exit)) r ≡ pushedInside (whole (now (regs .entry)) k) (listOf b) ⌝ }
+fn push_inside(regs: &mut [u8; 256], k: Core, b: Bytes) -> Pushed
+    ensures { λ r. ⌜ stackedOf (now (regs .exit)) r ≡ pushedInside (whole (now (regs .entry)) k) b ⌝ }
 {
     let n = count_of(b);
     let down = (256 - n as u16) as u8;
     let spl = crate::registers::held(regs, 0xFF);
     let sp = std::num::wrapping_add_u8(spl, down);
     crate::registers::place(regs, 0xFF, sp);
-    write_from(regs, k, sp, b)
+    let after = write_from(regs, k, sp, b);
+    Pushed {
+        k: after,
+        stores: Stores::Nothing,
+    }
 }
 
 fn push_outside(regs: &mut [u8; 256], k: Core, b: Bytes) -> Pushed
@@ -103,13 +107,10 @@ pub fn push(regs: &mut [u8; 256], k: Core, b: Bytes) -> Pushed
 {
     let inside = is_inside(regs, k);
     if inside {
-        let after = push_inside(regs, k, b);
-        return Pushed {
-            k: after,
-            stores: Stores::Nothing,
-        };
+        push_inside(regs, k, b)
+    } else {
+        push_outside(regs, k, b)
     }
-    push_outside(regs, k, b)
 }
 
 // The byte i above the top of the stack.

@@ -3,7 +3,7 @@ use crate::Machine;
 use timers::Timer;
 ghost use mathlib.Core.Path.{_≡_};
 ghost use mathlib.Core.Bool.{_&&_};
-ghost use Rattle.machine.specs.Start.{placedAll, resetPlaces, resetOf, newOf, standardOf, isKind, isCost, madeOf, fullTimer};
+ghost use Rattle.machine.specs.Start.{placedAll, resetPlaces, startedWith, resetOf, newOf, standardOf, isKind, isCost, madeOf, fullTimer};
 
 // A new machine; or a refusal's number, and then the standard machine, as the answer has to hold one.
 pub struct Made {
@@ -20,7 +20,7 @@ fn full_timer() -> Timer
     }
 }
 
-// The places that reset writes, in address order: the ports' latches, and F1 to FF.
+// The places that reset writes, in address order: the ports' latches, and F0 to FF.
 fn reset_places(regs: &mut [u8; 256])
     ensures { λ _. ⌜ now (regs .exit) ≡ placedAll (now (regs .entry)) resetPlaces ⌝ }
 {
@@ -28,6 +28,7 @@ fn reset_places(regs: &mut [u8; 256])
     crate::registers::place(regs, 0x01, 0);
     crate::registers::place(regs, 0x02, 0);
     crate::registers::place(regs, 0x03, 0);
+    crate::registers::place(regs, 0xF0, 0);
     crate::registers::place(regs, 0xF1, 0);
     crate::registers::place(regs, 0xF2, 0);
     crate::registers::place(regs, 0xF3, 0);
@@ -45,11 +46,11 @@ fn reset_places(regs: &mut [u8; 256])
     crate::registers::place(regs, 0xFF, 0);
 }
 
-// The machine after a reset.
-pub fn reset(m: Machine) -> Machine
-    ensures { λ r. ⌜ r ≡ resetOf m ⌝ }
+// The machine as it starts, of a file whose R4 to R127 stay.
+fn started_with(file: [u8; 256], kind: u8, cost: u8) -> Machine
+    ensures { λ r. ⌜ r ≡ startedWith file kind cost ⌝ }
 {
-    let mut regs = m.regs;
+    let mut regs = file;
     reset_places(&mut regs);
     let t0 = full_timer();
     let t1 = full_timer();
@@ -59,20 +60,30 @@ pub fn reset(m: Machine) -> Machine
         divider: 0,
         t0,
         t1,
-        port3: 0xFF,
+        last3: 0xFF,
         tout: true,
-        kind: m.kind,
-        cost: m.cost,
+        kind,
+        cost,
     }
 }
 
-fn is_kind(kind: u32) -> bool
+// The machine after a reset.
+pub fn reset(m: Machine) -> Machine
+    ensures { λ r. ⌜ r ≡ resetOf m ⌝ }
+{
+    let file = m.regs;
+    started_with(file, m.kind, m.cost)
+}
+
+// Whether there is such a type.
+pub fn is_kind(kind: u32) -> bool
     ensures { λ r. ⌜ r ≡ isKind kind ⌝ }
 {
     (kind == Machine::Z8601 as u32) | (kind == Machine::Z8611 as u32)
 }
 
-fn is_cost(cost: u32) -> bool
+// Whether an interrupt entry may cost so much.
+pub fn is_cost(cost: u32) -> bool
     ensures { λ r. ⌜ r ≡ isCost cost ⌝ }
 {
     (Machine::LEAST_COST as u32 <= cost) & (cost <= Machine::MOST_COST as u32)
@@ -89,7 +100,7 @@ impl Machine {
     pub const MOST_COST: u8 = 63;
 
     // What a new machine has where nothing is named.
-    pub const DEFAULT_KIND: u8 = 11;
+    pub const DEFAULT_KIND: u8 = Machine::Z8611;
 
     pub const DEFAULT_COST: u8 = 20;
 
@@ -97,20 +108,8 @@ impl Machine {
     fn fresh(kind: u8, cost: u8) -> Self
         ensures { λ m. ⌜ m ≡ newOf kind cost ⌝ }
     {
-        let regs = [0u8; 256];
-        let t0 = full_timer();
-        let t1 = full_timer();
-        reset(Machine {
-            regs,
-            pc: 0,
-            divider: 0,
-            t0,
-            t1,
-            port3: 0,
-            tout: false,
-            kind,
-            cost,
-        })
+        let file = [0u8; 256];
+        started_with(file, kind, cost)
     }
 
     // A new machine where nothing is named.

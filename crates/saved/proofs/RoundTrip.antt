@@ -24,7 +24,7 @@ use Rattle.machine.specs.Start.{isKind, isCost}
 use Rattle.machine.specs.Legal.{mayHold, LegalFile, Legal}
 use Rattle.machine.specs.declared.Machine.{Machine}
 use Rattle.machine.proofs.Legal.{zero-may, irq-small}
-use Rattle.saved.specs.Saved.{byte, timerOf, machineOf, restOf, savedOf, countsFit, ownFit, zeros, holesEmpty, bitsClear, legalOf, refusalOf}
+use Rattle.saved.specs.Saved.{byte, timerOf, machineOf, restOf, savedOf, countsFit, ownFit, zeros, holesEmpty, bitsClear, legalOf, refusalOf, loadOf}
 
 -- what is not refused is 268 bytes, and legal
 pub loads-268 : (s : List ℕ) → refusalOf s ≡ 0 → length s ≡ 268
@@ -242,7 +242,7 @@ module _ (s : List ℕ) (long : length s ≡ 268) (bytes : (i : ℕ) → byte s 
                   record { prescaler-low = f .prescaler1-low; prescaler-high = f .prescaler1-high; counter-low = c1 .0; counter-high = c1 .1 };
               irq-high = irq-small _ (file .bytes 0xFA) (file .places 0xFA);
             };
-        port3-byte = bytes 263;
+        last3-byte = bytes 263;
         kind = f .kind;
         cost = f .cost;
       }
@@ -390,18 +390,23 @@ module _ (m : Machine) (l : Legal m) where
       holes-saved
       bits-saved
 
--- both ways, in the words of the refusals: bytes that are not refused load to a legal machine, whose saved form they are
-pub bytes-and-back : (s : List ℕ) → ((i : ℕ) → byte s i < 256) → refusalOf s ≡ 0 → Legal (machineOf s) × (savedOf (machineOf s) ≡ s)
+-- bytes that are not refused load to a legal machine, whose saved form they are
+pub bytes-and-back : (s : List ℕ) → ((i : ℕ) → byte s i < 256) → refusalOf s ≡ 0
+    → Legal (machineOf s) × (loadOf s ≡ record { refusal = 0; machine = machineOf s }) × (savedOf (machineOf s) ≡ s)
+unfolding loadOf
 bytes-and-back s bytes e =
     let long = loads-268 s e in
     let f = facts s (loads-legal s e) in
-    (legal-loads s long bytes f, saved-back s long bytes f)
+    (legal-loads s long bytes f, rw e, saved-back s long bytes f)
 
--- and a legal machine's saved form is not refused and loads to it
-pub machine-and-back : (m : Machine) → Legal m → (refusalOf (savedOf m) ≡ 0) × (machineOf (savedOf m) ≡ m)
-unfolding refusalOf
+-- and a legal machine's saved form is 268 bytes, is not refused and loads to it
+pub machine-and-back : (m : Machine) → Legal m
+    → (length (savedOf m) ≡ 268) × (refusalOf (savedOf m) ≡ 0) × (loadOf (savedOf m) ≡ record { refusal = 0; machine = m })
+unfolding refusalOf loadOf
 machine-and-back m l =
-    (rw (eq-eqb (length (savedOf m)) 268 (saved-long m l), passed (legalOf (savedOf m)) (legal-saves m l)), loads-back m l)
+    let long : eqb (length (savedOf m)) 268 ≡ true = eq-eqb (length (savedOf m)) 268 (saved-long m l) in
+    let legal : legalOf (savedOf m) ≡ true = passed (legalOf (savedOf m)) (legal-saves m l) in
+    (saved-long m l, rw (long, legal), rw (long, legal, loads-back m l))
   where
     passed : (b : Bool) → T b → b ≡ true
     passed true t = refl

@@ -31,12 +31,13 @@ machineOf s =
       divider = byte s 258;
       t0 = timerOf (byte s 259) (byte s 260);
       t1 = timerOf (byte s 261) (byte s 262);
-      port3 = byte s 263;
+      last3 = byte s 263;
       tout = eqb (byte s 264) 1;
       kind = byte s 265;
       cost = byte s 266;
     }
 
+-- the same the other way: each number as its byte, which of a legal machine's is the number itself, but for a counter of 256
 unfoldable pub restOf : Machine → List ℕ
 restOf m =
     highByte (m .pc)
@@ -46,7 +47,7 @@ restOf m =
     ∷ lowByte (m .t0 .counter)
     ∷ lowByte (m .t1 .prescaler)
     ∷ lowByte (m .t1 .counter)
-    ∷ m .port3
+    ∷ m .last3
     ∷ oneIf (m .tout)
     ∷ m .kind
     ∷ m .cost
@@ -83,9 +84,10 @@ legalOf s =
     && holesEmpty s
     && bitsClear (byte s 0xF1) (byte s 0xFA) (byte s 0xFD)
 
--- refusal 7, "saved machine not 268 bytes", and then 6, "saved machine not legal"
+-- refusal 7, "saved machine not 268 bytes", before 6, "saved machine not legal"
 unfoldable pub refusalOf : List ℕ → ℕ
 refusalOf s = pick (eqb (length s) 268) (pick (legalOf s) 0 6) 7
 
+-- what bytes load to. A refused answer holds, as it has to hold one, the machine made where nothing is named.
 unfoldable pub loadOf : List ℕ → Loaded
 loadOf s = record { refusal = refusalOf s; machine = pick (eqb (refusalOf s) 0) (machineOf s) standardOf }

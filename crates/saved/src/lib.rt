@@ -62,7 +62,7 @@ fn machine_of(saved: &[u8]) -> Machine
         divider,
         t0,
         t1,
-        port3: saved[263],
+        last3: saved[263],
         tout: saved[264] == 1,
         kind: saved[265],
         cost: saved[266],
@@ -80,11 +80,9 @@ fn counts_fit(divider: u8, prescaler0: u8, prescaler1: u8) -> bool
 fn own_fit(cost: u8, tout: u8, kind: u8, spare: u8) -> bool
     ensures { λ r. ⌜ r ≡ ownFit cost tout kind spare ⌝ }
 {
-    (Machine::LEAST_COST <= cost)
-        & (cost <= Machine::MOST_COST)
-        & (tout <= 1)
-        & ((kind == Machine::Z8601) | (kind == Machine::Z8611))
-        & (spare == 0)
+    let payable = machine::start::is_cost(wide(cost));
+    let known = machine::start::is_kind(wide(kind));
+    payable & (tout <= 1) & known & (spare == 0)
 }
 
 // "places 80 to EF and F0 (hexadecimal) zero"
@@ -196,7 +194,7 @@ fn put_rest(rest: &mut [u8], m: Machine)
     rest[4] = counter0;
     rest[5] = prescaler1;
     rest[6] = counter1;
-    rest[7] = m.port3;
+    rest[7] = m.last3;
     rest[8] = tout;
     rest[9] = m.kind;
     rest[10] = m.cost;

@@ -3,22 +3,22 @@ use Rattle.machine.proofs.addresses.working_indirect.Statement.{stateme
 use Rattle.machine.proofs.addresses.working_indirect.Tie as tie
 use Rattle.machine.proofs.addresses.working_indirect.Reads as reads
 use Rattle.machine.proofs.addresses.working_indirect.Lts as lts
+use Rattle.machine.proofs.addresses.found.Reads as found-reads
 use Rattle.machine.proofs.addresses.working.Reads as working-reads
-use Rattle.machine.proofs.registers.read.Reads as read-reads
 use Rattle.machine.specs.Addresses.{workingIndirectAt}
 
--- src/addresses.rt:38:9
+-- src/addresses.rt:50:9
 working-requires : tie.Need-working-requires
 working-requires c κs = search needs
 
--- src/addresses.rt:39:5
-read-requires : tie.Need-read-requires
-read-requires c κs = search needs
+-- src/addresses.rt:51:5
+found-requires : tie.Need-found-requires
+found-requires c κs = search needs
 
--- src/addresses.rt:34:1
+-- src/addresses.rt:46:1
 returns : tie.Need-returns
 unfolding workingIndirectAt
-returns c = rw (c .read .ensures, c .before .working .ensures)
+returns c = rw (c .found .ensures, c .before .working .ensures)
 
 pub working-indirect-spec : {M : Type 1} → statement M
-working-indirect-spec = tie.close (tie.spec working-requires read-requires returns)
+working-indirect-spec = tie.close (tie.spec working-requires found-requires returns)

@@ -9,24 +9,24 @@ use Rattle.machine.proofs.stack.push_outside.Reads as push-outside-read
 use Rattle.machine.specs.Stack.{pushed}
 use mathlib.Core.Path.{_∙_}
 
--- src/stack.rt:104:9
+-- src/stack.rt:108:9
 is-inside-requires : tie.Need-is-inside-requires
 is-inside-requires c κs = search needs
 
--- src/stack.rt:106:13
+-- src/stack.rt:110:9
 push-inside-requires : tie.Need-push-inside-requires
 push-inside-requires c κs = search needs
 
--- src/stack.rt:107:9
-returns : tie.Need-returns
-unfolding pushed
-returns c = rw (c .push-inside .ensures, ← c .before .before .before .is-inside .ensures, c .before .before .if1 .taken)
-
--- src/stack.rt:112:5
+-- src/stack.rt:112:9
 push-outside-requires : tie.Need-push-outside-requires
 push-outside-requires c κs = search needs
 
--- src/stack.rt:101:1
+-- src/stack.rt:105:1
+returns : tie.Need-returns
+unfolding pushed
+returns c = c .push-inside .ensures ∙ rw (← c .before .before .before .is-inside .ensures, c .before .before .if1 .taken)
+
+-- src/stack.rt:105:1
 returns-2 : tie.Need-returns-2
 unfolding pushed
 returns-2 c = c .push-outside .ensures ∙ rw (← c .before .before .before .is-inside .ensures, c .before .before .if1 .left)
@@ -34,4 +34,4 @@ returns-2 c = c .push-outside .ensures ∙ rw (← c .before .before .before .is
 pub push-spec : {M : Type 1} → statement M
 push-spec =
     tie.close
-    (tie.spec is-inside-requires push-inside-requires returns push-outside-requires returns-2)
+    (tie.spec is-inside-requires push-inside-requires push-outside-requires returns returns-2)

@@ -39,7 +39,7 @@ wrapping-add-u8-requires c κs = search needs
 place-requires : tie.Need-place-requires
 place-requires c κs = search needs
 
--- src/stack.rt:83:5
+-- src/stack.rt:83:9
 write-from-requires : tie.Need-write-from-requires
 write-from-requires c κs = search needs
 

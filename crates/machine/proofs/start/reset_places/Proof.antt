@@ -82,10 +82,14 @@ place-requires-18 c κs = search needs
 place-requires-19 : tie.Need-place-requires-19
 place-requires-19 c κs = search needs
 
+-- src/start.rt:46:5
+place-requires-20 : tie.Need-place-requires-20
+place-requires-20 c κs = search needs
+
 -- src/start.rt:24:1
 returns : tie.Need-returns
 unfolding resetPlaces
-returns c = rw (c .place19 .ensures, c .before .before .place18 .ensures, c .before .before .before .before .place17 .ensures, c .before .before .before .before .before .before .place16 .ensures, c .before .before .before .before .before .before .before .before .place15 .ensures, c .before .before .before .before .before .before .before .before .before .before .place14 .ensures, c .before .before .before .before .before .before .before .before .before .before .before .before .place13 .ensures, c .before .before .before .before .before .before .before .before .before .before .before .before .before .before .place12 .ensures, c .before .before .before .before .before .before .before .before .before .before .before .before .before .before .before .before .place11 .ensures, c .before .before .before .before .before .before .before .before .before .before .before .before .before .before .before .before .before .before .place10 .ensures, c .before .before .before .before .before .before .before .before .before .before .before .before .before .before .before .before .before .before .before .before .place9 .ensures, c .before .before .before .before .before .before .before .before .before .before .before .before .before .before .before .before .before .before .before .before .before .before .place8 .ensures, c .before .before .before .before .before .before .before .before .before .before .before .before .before .before .before .before .before .before .before .before .before .before .before .before .place7 .ensures, c .before .before .before .before .before .before .before .before .before .before .before .before .before .before .before .before .before .before .before .before .before .before .before .before .before .before .place6 .ensures, c .before .before .before .before .before .before .before .before .before .before .before .before .before .before .before .before .before .before .before .before .before .before .before .before .before .before .before .before .place5 .ensures, c .before .before .before .before .before .before .before .before .before .before .before .before .before .before .before .before .before .before .before .before .before .before .before .before .before .before .before .before .before .before .place4 .ensures, c .before .before .before .before .before .before .before .before .before .before .before .before .before .before .before .before .before .before .before .before .before .before .before .before .before .before .before .before .before .before .before .before .place3 .ensures, c .before .before .before .before .before .before .before .before .before .before .before .before .before .before .before .before .before .before .before .before .before .before .before .before .before .before .before .before .before .before .before .before .before .before .place2 .ensures, c .before .before .before .before .before .before .before .before .before .before .before .before .before .before .before .before .before .before .before .before .before .before .before .before .before .before .before .before .before .before .before .before .before .before .before .before .place .ensures)
+returns c = rw (c .place20 .ensures, c .before .before .place19 .ensures, c .before .before .before .before .place18 .ensures, c .before .before .before .before .before .before .place17 .ensures, c .before .before .before .before .before .before .before .before .place16 .ensures, c .before .before .before .before .before .before .before .before .before .before .place15 .ensures, c .before .before .before .before .before .before .before .before .before .before .before .before .place14 .ensures, c .before .before .before .before .before .before .before .before .before .before .before .before .before .before .place13 .ensures, c .before .before .before .before .before .before .before .before .before .before .before .before .before .before .before .before .place12 .ensures, c .before .before .before .before .before .before .before .before .before .before .before .before .before .before .before .before .before .before .place11 .ensures, c .before .before .before .before .before .before .before .before .before .before .before .before .before .before .before .before .before .before .before .before .place10 .ensures, c .before .before .before .before .before .before .before .before .before .before .before .before .before .before .before .before .before .before .before .before .before .before .place9 .ensures, c .before .before .before .before .before .before .before .before .before .before .before .before .before .before .before .before .before .before .before .before .before .before .before .before .place8 .ensures, c .before .before .before .before .before .before .before .before .before .before .before .before .before .before .before .before .before .before .before .before .before .before .before .before .before .before .place7 .ensures, c .before .before .before .before .before .before .before .before .before .before .before .before .before .before .before .before .before .before .before .before .before .before .before .before .before .before .before .before .place6 .ensures, c .before .before .before .before .before .before .before .before .before .before .before .before .before .before .before .before .before .before .before .before .before .before .before .before .before .before .before .before .before .before .place5 .ensures, c .before .before .before .before .before .before .before .before .before .before .before .before .before .before .before .before .before .before .before .before .before .before .before .before .before .before .before .before .before .before .before .before .place4 .ensures, c .before .before .before .before .before .before .before .before .before .before .before .before .before .before .before .before .before .before .before .before .before .before .before .before .before .before .before .before .before .before .before .before .before .before .place3 .ensures, c .before .before .before .before .before .before .before .before .before .before .before .before .before .before .before .before .before .before .before .before .before .before .before .before .before .before .before .before .before .before .before .before .before .before .before .before .place2 .ensures, c .before .before .before .before .before .before .before .before .before .before .before .before .before .before .before .before .before .before .before .before .before .before .before .before .before .before .before .before .before .before .before .before .before .before .before .before .before .before .place .ensures)
 
 pub reset-places-spec : {M : Type 1} → statement M
 reset-places-spec =
@@ -110,4 +114,5 @@ reset-places-spec =
     place-requires-17
     place-requires-18
     place-requires-19
+    place-requires-20
     returns)
