@@ -1,12 +1,12 @@
 -- A legal machine stays legal: each store, the stack, reset, cycles. And what registers and ports read is a byte. Assumes nothing.
-use mathlib.Core.Path.{_≡_, _∙_, refl, sym, ap}
+use mathlib.Core.Path.{_≡_, _∙_, refl}
 use mathlib.Core.Bool.{Bool, true, false, not, _&&_, _||_}
 use mathlib.Core.List.{List, [], _∷_}
-use Prim.Native.Nat.{ℕ, zero, suc, _+_, _-_, _*_, _/_, _%_, _≤_, _<_}
+use Prim.Native.Nat.{ℕ, zero, suc, _+_, _-_, _*_, _%_, _<_}
 use native.Mathlib.Omega.{arith}
 use borrow.Author.Tests.{ltb-true, eqb-true, lt-ltb}
-use lib.Dec.{T, eqb, ltb, leb, lit<, lit≤, ltb→lt}
-use lib.Bits.{bitAnd, bitOr, and-lt, or-lt}
+use lib.Dec.{T, eqb, ltb, lit<, lit≤, ltb→lt}
+use lib.Bits.{bitAnd, and-lt, or-lt}
 use lib.ListN.{length, getD, replicate}
 use Rattle.word.specs.Choose.{pick}
 use Rattle.word.specs.Fields.{upper, lower, highByte, lowByte}
@@ -20,7 +20,7 @@ use Rattle.timers.specs.declared.Moving.{Moving}
 use Rattle.timers.proofs.Legal.{setting-legal, written-legal, cycles-legal}
 use Rattle.machine.specs.State.{heldIn, placedIn, held, placed}
 use Rattle.machine.specs.Ports.{masked, port0Lines, port1Lines, port2Lines, port3Lines, linesOf, portStores, portReads, pinsOf, ofPort}
-use Rattle.machine.specs.Clock.{Ran, controlWith, controlOf, movingOf, enabling, countsAt, movedTo, writeTmr, spanOf, shown}
+use Rattle.machine.specs.Clock.{controlWith, controlOf, movingOf, enabling, countsAt, movedTo, writeTmr, spanOf, shown}
 use Rattle.machine.specs.Registers.{isHole, isWriteOnly, portLines, readPort, writePort, readReg, writeReg}
 use Rattle.machine.specs.Addresses.{workingAt, registerAt, indexedAt, evenOf, readPair, writePair}
 use Rattle.machine.specs.Stack.{Stacked, spl, spOf, spSet, writtenFrom, pushedInside, pushedOutside, pushed, stackByte, raised, isInside}
@@ -32,7 +32,7 @@ use Rattle.machine.specs.declared.Bytes as bytes
 use Rattle.machine.specs.declared.Pins.{Pins}
 use Rattle.machine.specs.declared.start.Made.{Made}
 use Rattle.machine.specs.declared.ports.Directions.{Directions}
-use Rattle.machine.proofs.Places.{place-long, held-same, held-other, each-placed}
+use Rattle.machine.proofs.Places.{place-long, each-placed}
 use Rattle.machine.proofs.Lens.{span-is, every}
 
 -- a file with a place that holds what it may

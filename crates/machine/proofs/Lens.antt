@@ -1,12 +1,11 @@
 -- What cycles move of a machine: what is put back is seen, what the timers read stays, the last put counts, and what is seen, put back,
 -- is the machine itself. So n cycles of a machine are n cycles of what they move, put back once. Assumes nothing.
-use mathlib.Core.Path.{_≡_, refl, ap, ap₂, sym, _∙_}
+use mathlib.Core.Path.{_≡_, refl, ap, sym, _∙_}
 use mathlib.Core.Bool.{Bool, true, false}
-use mathlib.Core.List.{List}
-use Prim.Native.Nat.{ℕ, zero, suc, _/_, _<_}
+use Prim.Native.Nat.{ℕ, zero, suc, _<_}
 use native.Mathlib.Omega.{arith}
 use lib.ListN.{length}
-use lib.Bits.{bitAnd, bitOr}
+use lib.Bits.{bitAnd}
 use Rattle.word.proofs.Computed.{made, agree}
 use Rattle.timers.specs.Iter.{iter}
 use Rattle.timers.specs.Control.{settingOf, enable0, enable1, toutMode, tinMode}
@@ -14,7 +13,7 @@ use Rattle.timers.specs.Clock.{cycle, cycles, begun}
 use Rattle.timers.specs.declared.Moving.{Moving}
 use Rattle.timers.specs.declared.Setting.{Setting}
 use Rattle.timers.specs.declared.Spanned.{Spanned}
-use Rattle.machine.specs.State.{heldIn, placedIn, held, placed}
+use Rattle.machine.specs.State.{placedIn, held, placed}
 use Rattle.machine.specs.Clock.{Ran, controlWith, controlOf, movingOf, enabling, countsAt, movedTo, seen, shown, cycleOf, spanOf}
 use Rattle.machine.specs.declared.Machine.{Machine}
 use Rattle.machine.proofs.Places.{place-long, held-same, held-other, place-own, places-again}

@@ -1,24 +1,20 @@
 -- What the order asks of a machine beyond the contracts: a store moves nothing else, the Ex rule is applied once, a span moves the timers'
 -- part alone, and the closed formula. Assumes nothing.
 use mathlib.Core.Path.{_≡_, _∙_, refl, ap, sym}
-use mathlib.Core.Bool.{Bool, true, false}
 use mathlib.Core.Logic.{_≢_}
-use Prim.Native.Nat.{ℕ, zero, suc, _+_, _*_, _/_, _%_, _^_, _≤_, _<_}
+use Prim.Native.Nat.{ℕ, _+_, _*_, _/_, _%_, _^_, _<_}
 use native.Mathlib.Omega.{arith}
-use borrow.Author.Tests.{eqb-true, eq-eqb, ne-eqb}
+use borrow.Author.Tests.{eqb-true, ne-eqb}
 use lib.Dec.{eqb, ltb, eqb→eq}
 use lib.ListN.{length}
-use lib.Bits.{bitAnd, bitOr, or-mod, or-zero-r}
+use lib.Bits.{bitAnd, or-mod, or-zero-r}
 use Rattle.word.specs.Fields.{bitOf, lower}
 use Rattle.word.proofs.Computed.{by-test, agree}
-use Rattle.timers.specs.Iter.{iter}
 use Rattle.timers.specs.Requests.{latch}
 use Rattle.timers.specs.Control.{settingOf, setupOf}
-use Rattle.timers.specs.Timer.{ticked}
 use Rattle.timers.specs.Clock.{written, endOf, both, cycle, cycles, begun, atDivider, Which, T0, T1, setupFor, countingFor, endsFor, gone, Steady}
 use Rattle.timers.specs.declared.Setup.{Setup}
 use Rattle.timers.specs.declared.Setting.{Setting}
-use Rattle.timers.specs.declared.Source.{Source}
 use Rattle.timers.specs.declared.Source.the-variants.{Divider}
 use Rattle.timers.specs.declared.Lines.{Lines}
 use Rattle.timers.specs.declared.Moving.{Moving}
@@ -27,12 +23,11 @@ use Rattle.timers.proofs.Iterate.{iter-keeps}
 use Rattle.timers.proofs.Formula.{formula}
 use Rattle.timers.proofs.Legal.{cycles-legal}
 use Rattle.machine.specs.State.{coreOf, held, placed}
-use Rattle.machine.specs.Clock.{Ran, controlWith, controlOf, movingOf, countsAt, movedTo, writeTmr, shown, spanOf}
+use Rattle.machine.specs.Clock.{Ran, controlOf, movingOf, countsAt, movedTo, writeTmr, shown, spanOf}
 use Rattle.machine.specs.Registers.{isHole, readReg, writePort, writeReg}
 use Rattle.machine.specs.Addresses.{workingAt, registerAt, indirectAt}
 use Rattle.machine.specs.Legal.{mayHold, Legal}
 use Rattle.machine.specs.declared.Machine.{Machine}
-use Rattle.machine.specs.declared.Core.{Core}
 use Rattle.machine.specs.declared.Pins.{Pins}
 use Rattle.machine.proofs.Places.{held-other}
 use Rattle.machine.proofs.Ranges.{hole-reads, hole-drops}

@@ -1,13 +1,12 @@
 -- A legal 268 bytes loads to a legal machine whose saved form is those bytes, and a legal machine's saved form is legal and loads to it.
 -- Assumes nothing.
 use mathlib.Core.Path.{_≡_, _∙_, refl, sym, ap}
-use mathlib.Core.Bool.{Bool, true, false, _&&_, _||_}
+use mathlib.Core.Bool.{Bool, true, false, _&&_}
 use mathlib.Core.List.{List, [], _∷_, _++_}
-use Prim.Native.Nat.{ℕ, zero, suc, _+_, _-_, _*_, _/_, _%_, _≤_, _<_}
+use Prim.Native.Nat.{ℕ, zero, suc, _+_, _≤_, _<_}
 use native.Mathlib.Omega.{arith}
 use native.Mathlib.Decide.{decLt, ℕ-discrete}
 use native.Mathlib.Nat.{mod-eq-of-lt}
-use native.Mathlib.Numerals.{add-one}
 use borrow.Author.Tests.{eqb-true, eqb-false, eq-eqb, ne-eqb, le-leb}
 use lib.Dec.{T, eqb, leb, eqb→eq, leb→le, le→leb, lit<, lit≤}
 use lib.ListN.{getD, length, take, drop, length-append, take-append-drop, drop-of-length-le, List·getD-eq-default, List·getD-append}
@@ -16,7 +15,6 @@ use Rattle.word.specs.Choose.{pick, oneIf}
 use Rattle.word.specs.Fields.{bitOf, lower, wordOf, highByte, lowByte}
 use Rattle.word.proofs.Computed.{by-test, agree, and-left, and-right}
 use Rattle.timers.specs.Control.{orHighest}
-use Rattle.timers.specs.Clock.{LegalMoving}
 use Rattle.machine.specs.State.{heldIn}
 use Rattle.machine.specs.Clock.{movingOf}
 use Rattle.machine.specs.Registers.{isHole}

@@ -1,27 +1,20 @@
 use borrow.Author.Needs.{needs}
 use Rattle.saved.proofs.check.Statement.{statement}
 use Rattle.saved.proofs.check.Tie as tie
-use Rattle.saved.proofs.check.Reads as reads
-use Rattle.saved.proofs.check.Lts as lts
-use Rattle.saved.proofs.is_legal.Reads as is-legal-reads
 use borrow.Author.Tests.{eq-eqb, ne-eqb}
 use Rattle.saved.specs.Saved.{refusalOf}
 
--- src/lib.rt:128:9
 returns : tie.Need-returns
 unfolding refusalOf
 returns c = rw (ne-eqb _ _ (c .if1 .taken))
 
--- src/lib.rt:130:9
 is-legal-requires : tie.Need-is-legal-requires
 is-legal-requires c κs = search needs
 
--- src/lib.rt:124:1
 returns-2 : tie.Need-returns-2
 unfolding refusalOf
 returns-2 c = rw (eq-eqb _ _ (c .before .before .if1 .left), ← c .before .is-legal .ensures, c .if2 .taken)
 
--- src/lib.rt:124:1
 returns-3 : tie.Need-returns-3
 unfolding refusalOf
 returns-3 c = rw (eq-eqb _ _ (c .before .before .if1 .left), ← c .before .is-legal .ensures, c .if2 .left)

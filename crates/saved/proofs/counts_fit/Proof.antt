@@ -2,10 +2,7 @@ use mathlib.Core.Path.{refl}
 use Rattle.saved.specs.Saved.{countsFit}
 use Rattle.saved.proofs.counts_fit.Statement.{statement}
 use Rattle.saved.proofs.counts_fit.Tie as tie
-use Rattle.saved.proofs.counts_fit.Reads as reads
-use Rattle.saved.proofs.counts_fit.Lts as lts
 
--- src/lib.rt:72:1
 returns : tie.Need-returns
 unfolding countsFit
 returns c = refl

@@ -1,35 +1,25 @@
 use borrow.Author.Needs.{needs}
 use Rattle.saved.proofs.load.Statement.{statement}
 use Rattle.saved.proofs.load.Tie as tie
-use Rattle.saved.proofs.load.Reads as reads
-use Rattle.saved.proofs.load.Lts as lts
-use Rattle.machine.proofs.Machine.standard.Reads as standard-reads
-use Rattle.saved.proofs.check.Reads as check-reads
-use Rattle.saved.proofs.machine_of.Reads as machine-of-reads
-use mathlib.Core.Path.{_≡_, _∙_, sym}
+use mathlib.Core.Path.{_∙_, sym}
 use native.Mathlib.Omega.{arith}
-use borrow.Author.Tests.{eq-eqb, ne-eqb}
+use borrow.Author.Tests.{ne-eqb}
 use Rattle.saved.specs.Saved.{loadOf}
 use Rattle.saved.proofs.RoundTrip.{loads-268, bytes-and-back}
 
--- src/lib.rt:143:9
 check-requires : tie.Need-check-requires
 check-requires c κs = search needs
 
--- src/lib.rt:145:13
 standard-requires : tie.Need-standard-requires
 standard-requires c κs = search needs
 
--- src/lib.rt:146:9
 returns : tie.Need-returns
 unfolding loadOf
 returns c = (rw (c .standard .ensures, ← c .before .before .check .ensures, ne-eqb _ _ (c .before .if1 .taken)), λ e. absurd (c .before .if1 .taken e))
 
--- src/lib.rt:148:9
 machine-of-requires : tie.Need-machine-of-requires
 machine-of-requires c κs = loads-268 _ (sym (c .before .check .ensures) ∙ c .if1 .left)
 
--- src/lib.rt:139:1
 returns-2 : tie.Need-returns-2
 unfolding loadOf
 returns-2 c =

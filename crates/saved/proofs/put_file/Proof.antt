@@ -1,15 +1,12 @@
 use borrow.Author.Needs.{needs}
-use mathlib.Core.Path.{_≡_, _∙_, refl, sym}
-use mathlib.Core.List.{append-nil}
+use mathlib.Core.Path.{_≡_, _∙_, refl}
 use native.Mathlib.Omega.{arith}
-use Prim.Native.Nat.{ℕ, suc, _+_, _-_, _<_, _≤_}
+use Prim.Native.Nat.{_-_, _≤_}
 use lib.ListN.{getD, length, length-set}
 use lib.Seq.{take-all}
 use Rattle.saved.proofs.Lists.{over, over-more}
 use Rattle.saved.proofs.put_file.Statement.{statement}
 use Rattle.saved.proofs.put_file.Tie as tie
-use Rattle.saved.proofs.put_file.Reads as reads
-use Rattle.saved.proofs.put_file.Lts as lts
 
 abbrev Inv-loop : tie.InvT-loop
 Inv-loop saved₀ file i₀ saved i = (i ≤ 256) × ((length saved ≡ length saved₀) × ((length file ≡ 256) × (saved ≡ over file saved₀ i)))
@@ -17,38 +14,30 @@ Inv-loop saved₀ file i₀ saved i = (i ≤ 256) × ((length saved ≡ length s
 abbrev μ-loop : tie.MeasureT-loop
 μ-loop saved₀ file i₀ saved i = 256 - i
 
--- src/lib.rt:151:5
 loop-holds : tie.Need-loop-holds Inv-loop μ-loop
 loop-holds c = (omega arith, (refl, (search needs, refl)))
 
--- src/lib.rt:152:20
 array-read-saved : tie.Need-array-read-saved Inv-loop μ-loop
 array-read-saved c = omega arith
 
--- src/lib.rt:152:9
 slice-write-saved : tie.Need-slice-write-saved Inv-loop μ-loop
 slice-write-saved c = omega arith
 
--- src/lib.rt:153:13
 add-i : tie.Need-add-i Inv-loop μ-loop
 add-i c = omega arith
 
--- src/lib.rt:151:5
 loop-less : tie.Need-loop-less Inv-loop μ-loop
 loop-less c = omega arith
 
--- src/lib.rt:151:5
 loop-again : tie.Need-loop-again Inv-loop μ-loop
 loop-again c =
     let s = c .before .before in
     let l = c .before .loop in
     (omega arith, (length-set (l .saved) (l .i) (getD (s .args .t2) (l .i) 0) ∙ l .inv .1 .0, (l .inv .1 .1 .0, over-more (s .args .t2) (s .args .saved .now) (l .saved) (l .i) (omega arith) (omega arith) (l .inv .1 .1 .1))))
 
--- src/lib.rt:146:1
 same-length : tie.Need-same-length Inv-loop μ-loop
 same-length c = c .before .loop .inv .1 .0
 
--- src/lib.rt:146:1
 returns : tie.Need-returns Inv-loop μ-loop
 returns c =
     let e : c .before .loop .i ≡ 256 = omega arith in

@@ -1,10 +1,6 @@
 use borrow.Author.Needs.{needs}
 use Rattle.saved.proofs.save.Statement.{statement}
 use Rattle.saved.proofs.save.Tie as tie
-use Rattle.saved.proofs.save.Reads as reads
-use Rattle.saved.proofs.save.Lts as lts
-use Rattle.saved.proofs.put_file.Reads as put-file-reads
-use Rattle.saved.proofs.put_rest.Reads as put-rest-reads
 use mathlib.Core.Path.{_≡_}
 use native.Mathlib.Omega.{arith}
 use lib.ListN.{length}
@@ -14,31 +10,24 @@ use Rattle.saved.proofs.Lists.{put-end}
 long : (s : tie.Start) → length (s .args .m .regs) ≡ 256
 long s = search needs
 
--- src/lib.rt:203:5
 put-file-requires : tie.Need-put-file-requires
 put-file-requires c κs = search needs
 
--- src/lib.rt:204:14
 sub-put-rest : tie.Need-sub-put-rest
 sub-put-rest c = search needs
 
--- src/lib.rt:204:14
 part-put-rest-start : tie.Need-part-put-rest-start
 part-put-rest-start c = search needs
 
--- src/lib.rt:204:14
 part-put-rest-end : tie.Need-part-put-rest-end
 part-put-rest-end c = search needs
 
--- src/lib.rt:204:5
 put-rest-requires : tie.Need-put-rest-requires
 put-rest-requires c κs = search needs
 
--- src/lib.rt:198:1
 same-length : tie.Need-same-length
 same-length c = search needs
 
--- src/lib.rt:198:1
 returns : tie.Need-returns
 unfolding savedOf
 returns c =

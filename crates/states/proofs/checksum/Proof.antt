@@ -1,13 +1,7 @@
 use borrow.Author.Needs.{needs}
-use mathlib.Core.Path.{_≡_, _∙_, refl}
-use Prim.Native.Nat.{_+_, _-_, _*_, _%_, _≤_, _<_}
-use native.Mathlib.Omega.{arith}
+use Prim.Native.Nat.{_-_, _≤_}
 use Rattle.states.proofs.checksum.Statement.{statement}
 use Rattle.states.proofs.checksum.Tie as tie
-use Rattle.states.proofs.checksum.Reads as reads
-use Rattle.states.proofs.checksum.Lts as lts
-use Rattle.states.proofs.asked.Reads as asked-reads
-use Rattle.states.proofs.mixed.Reads as mixed-reads
 
 abbrev Inv-loop : tie.InvT-loop
 Inv-loop question n h₀ i₀ h i = i ≤ n

@@ -1,12 +1,9 @@
-use mathlib.Core.Path.{_≡_, _∙_, refl}
-use Prim.Native.Nat.{_+_, _-_, _*_, _%_, _≤_, _<_}
+use Prim.Native.Nat.{_+_, _*_, _%_, _≤_}
 use native.Mathlib.Omega.{arith}
 use native.Mathlib.Nat.{mul-le-mul}
 use borrow.Author.Needs.{needs}
 use Rattle.states.proofs.draw.Statement.{statement}
 use Rattle.states.proofs.draw.Tie as tie
-use Rattle.states.proofs.draw.Reads as reads
-use Rattle.states.proofs.draw.Lts as lts
 
 mul-a : tie.Need-mul-a
 mul-a c = search needs

@@ -1,13 +1,10 @@
 use borrow.Author.Needs.{needs}
 use mathlib.Core.Path.{_≡_, _∙_, refl}
-use Prim.Native.Nat.{_+_, _-_, _*_, _%_, _≤_, _<_}
+use Prim.Native.Nat.{_-_, _≤_}
 use native.Mathlib.Omega.{arith}
 use lib.ListN.{length, length-set}
 use Rattle.states.proofs.draw_changed.Statement.{statement}
 use Rattle.states.proofs.draw_changed.Tie as tie
-use Rattle.states.proofs.draw_changed.Reads as reads
-use Rattle.states.proofs.draw_changed.Lts as lts
-use Rattle.states.proofs.drawn_byte.Reads as drawn-byte-reads
 
 abbrev Inv-loop : tie.InvT-loop
 Inv-loop s₀ i at k₀ s k = (k ≤ 268) × ((length s ≡ length s₀) × (268 ≤ length s₀))

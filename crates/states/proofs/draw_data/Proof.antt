@@ -1,12 +1,10 @@
 use borrow.Author.Needs.{needs}
 use mathlib.Core.Path.{_≡_, _∙_, refl}
-use Prim.Native.Nat.{_+_, _-_, _*_, _%_, _≤_, _<_}
+use Prim.Native.Nat.{_-_, _≤_}
 use native.Mathlib.Omega.{arith}
 use lib.ListN.{length, length-set}
 use Rattle.states.proofs.draw_data.Statement.{statement}
 use Rattle.states.proofs.draw_data.Tie as tie
-use Rattle.states.proofs.draw_data.Reads as reads
-use Rattle.states.proofs.draw_data.Lts as lts
 
 abbrev Inv-loop : tie.InvT-loop
 Inv-loop mem₀ i k₀ k-end mem k = (k ≤ k-end) × ((k-end ≡ length mem₀) × (length mem ≡ length mem₀))

@@ -1,16 +1,8 @@
 use borrow.Author.Needs.{needs}
-use mathlib.Core.Path.{_≡_, _∙_, refl}
-use Prim.Native.Nat.{_+_, _-_, _*_, _%_, _≤_, _<_}
+use Prim.Native.Nat.{_-_, _≤_}
 use native.Mathlib.Omega.{arith}
 use Rattle.states.proofs.reads.Statement.{statement}
 use Rattle.states.proofs.reads.Tie as tie
-use Rattle.states.proofs.reads.Reads as reads
-use Rattle.states.proofs.reads.Lts as lts
-use Rattle.machine.proofs.core_of.Reads as core-of-reads
-use Rattle.machine.proofs.registers.read.Reads as read-reads
-use Rattle.states.proofs.drawn.Reads as drawn-reads
-use Rattle.states.proofs.mixed.Reads as mixed-reads
-use Rattle.states.proofs.pins.Reads as pins-reads
 
 abbrev Inv-loop : tie.InvT-loop
 Inv-loop i p regs k h₀ a₀ h a = a ≤ 256

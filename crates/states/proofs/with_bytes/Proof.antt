@@ -1,13 +1,10 @@
 use borrow.Author.Needs.{needs}
-use mathlib.Core.Path.{_≡_, _∙_, refl}
-use Prim.Native.Nat.{_+_, _-_, _*_, _%_, _≤_, _<_}
+use mathlib.Core.Path.{_≡_, refl}
+use Prim.Native.Nat.{_-_, _≤_}
 use native.Mathlib.Omega.{arith}
 use lib.ListN.{length}
 use Rattle.states.proofs.with_bytes.Statement.{statement}
 use Rattle.states.proofs.with_bytes.Tie as tie
-use Rattle.states.proofs.with_bytes.Reads as reads
-use Rattle.states.proofs.with_bytes.Lts as lts
-use Rattle.states.proofs.with_byte.Reads as with-byte-reads
 
 abbrev Inv-loop : tie.InvT-loop
 Inv-loop h s sum₀ k₀ k-end sum k = (k ≤ k-end) × (k-end ≡ length s)

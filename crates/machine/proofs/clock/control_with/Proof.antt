@@ -1,28 +1,20 @@
 use borrow.Author.Needs.{needs}
 use Rattle.machine.proofs.clock.control_with.Statement.{statement}
 use Rattle.machine.proofs.clock.control_with.Tie as tie
-use Rattle.machine.proofs.clock.control_with.Reads as reads
-use Rattle.machine.proofs.clock.control_with.Lts as lts
-use Rattle.machine.proofs.registers.held.Reads as held-reads
 use Rattle.machine.specs.Clock.{controlWith}
 
--- src/clock.rt:22:9
 held-requires : tie.Need-held-requires
 held-requires c κs = search needs
 
--- src/clock.rt:23:9
 held-requires-2 : tie.Need-held-requires-2
 held-requires-2 c κs = search needs
 
--- src/clock.rt:24:9
 held-requires-3 : tie.Need-held-requires-3
 held-requires-3 c κs = search needs
 
--- src/clock.rt:25:9
 held-requires-4 : tie.Need-held-requires-4
 held-requires-4 c κs = search needs
 
--- src/clock.rt:19:1
 returns : tie.Need-returns
 unfolding controlWith
 returns c = rw (c .held4 .ensures, c .before .held3 .ensures, c .before .before .held2 .ensures, c .before .before .before .held .ensures)

@@ -1,14 +1,10 @@
 use borrow.Author.Needs.{needs}
 use Rattle.machine.proofs.memory.load.Statement.{statement}
 use Rattle.machine.proofs.memory.load.Tie as tie
-use Rattle.machine.proofs.memory.load.Reads as reads
-use Rattle.machine.proofs.memory.load.Lts as lts
-use Rattle.machine.proofs.memory.data_start.Reads as data-start-reads
-use mathlib.Core.Path.{_≡_, _∙_, refl, sym}
-use native.Mathlib.Omega.{arith}
+use mathlib.Core.Path.{_≡_, sym}
 use Prim.Native.Nat.{ℕ, _<_, _≤_}
-use borrow.Author.Tests.{lt-ltb, le-ltb, eq-eqb, ne-eqb}
-use lib.ListN.{getD, set, length, List·getD-eq-default}
+use borrow.Author.Tests.{lt-ltb, le-ltb}
+use lib.ListN.{getD, length, List·getD-eq-default}
 use mathlib.Core.List.{List}
 use Rattle.machine.proofs.Elements.{element}
 use Rattle.machine.specs.Memory.{dataByte, dataStart}
@@ -25,23 +21,18 @@ past : (kind : ℕ) (mem : List ℕ) (a : ℕ) → dataStart kind ≤ a → leng
 unfolding dataByte
 past kind mem a h k = rw (le-ltb a (dataStart kind) h) (sym (List·getD-eq-default mem 0xFF k))
 
--- src/memory.rt:26:9
 data-start-requires : tie.Need-data-start-requires
 data-start-requires c κs = search needs
 
--- src/memory.rt:29:9
 returns : tie.Need-returns
 returns c = let under : c .before .before .before .args .a < dataStart (c .before .before .before .args .kind) = rw (c .before .data-start .ensures) at (c .if1 .taken) in below _ _ _ under
 
--- src/memory.rt:31:24
 shared-slice-read-result : tie.Need-shared-slice-read-result
 shared-slice-read-result c = search needs
 
--- src/memory.rt:23:1
 returns-2 : tie.Need-returns-2
 returns-2 c = let from : dataStart (c .before .before .before .before .before .args .kind) ≤ c .before .before .before .before .before .args .a = rw (c .before .before .before .data-start .ensures) at (c .before .before .if1 .left) in within _ (c .before .before .before .before .before .args .mem .now) _ from (c .before .if2 .taken)
 
--- src/memory.rt:23:1
 returns-3 : tie.Need-returns-3
 returns-3 c = let from : dataStart (c .before .before .before .before .args .kind) ≤ c .before .before .before .before .args .a = rw (c .before .before .data-start .ensures) at (c .before .if1 .left) in past _ (c .before .before .before .before .args .mem .now) _ from (c .if2 .left)
 

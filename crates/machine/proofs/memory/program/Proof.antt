@@ -1,26 +1,19 @@
 use borrow.Author.Needs.{needs}
 use Rattle.machine.proofs.memory.program.Statement.{statement}
 use Rattle.machine.proofs.memory.program.Tie as tie
-use Rattle.machine.proofs.memory.program.Reads as reads
-use Rattle.machine.proofs.memory.program.Lts as lts
-use mathlib.Core.Path.{_≡_, _∙_, refl, sym}
+use mathlib.Core.Path.{sym}
 use native.Mathlib.Omega.{arith}
-use Prim.Native.Nat.{ℕ, _<_, _≤_}
-use lib.ListN.{getD, set, length, List·getD-eq-default}
-use mathlib.Core.List.{List}
+use lib.ListN.{List·getD-eq-default}
 use Rattle.machine.proofs.Elements.{element}
 use Rattle.machine.specs.Memory.{programByte}
 
--- src/memory.rt:12:26
 shared-slice-read-result : tie.Need-shared-slice-read-result
 shared-slice-read-result c = search needs
 
--- src/memory.rt:8:1
 returns : tie.Need-returns
 unfolding programByte
 returns c = element (c .before .before .args .image .now) _ _ _ (c .before .if1 .taken)
 
--- src/memory.rt:8:1
 returns-2 : tie.Need-returns-2
 unfolding programByte
 returns-2 c = sym (List·getD-eq-default (c .before .args .image .now) 0xFF (omega arith))

@@ -1,32 +1,24 @@
 use borrow.Author.Needs.{needs}
 use Rattle.machine.proofs.memory.store.Statement.{statement}
 use Rattle.machine.proofs.memory.store.Tie as tie
-use Rattle.machine.proofs.memory.store.Reads as reads
-use Rattle.machine.proofs.memory.store.Lts as lts
-use Rattle.machine.proofs.memory.store_bytes.Reads as store-bytes-reads
 use Rattle.machine.specs.Memory.{storedIn}
 
 enum-told : tie.Need-enum-told
 enum-told c = search needs
 
--- src/memory.rt:74:20
 enum-known-s : tie.Need-enum-known-s
 enum-known-s c = search needs
 
--- src/memory.rt:75:13
 store-bytes-requires : tie.Need-store-bytes-requires
 store-bytes-requires c κs = search needs
 
--- src/memory.rt:69:1
 returns : tie.Need-returns
 unfolding storedIn
 returns c = rw (c .enum-told .given .1)
 
--- src/memory.rt:69:1
 same-length : tie.Need-same-length
 same-length c = search needs
 
--- src/memory.rt:69:1
 returns-2 : tie.Need-returns-2
 unfolding storedIn
 returns-2 c = rw (c .before .before .store-bytes .ensures, c .before .before .before .before .before .s .given .1)

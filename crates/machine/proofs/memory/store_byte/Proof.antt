@@ -1,13 +1,9 @@
 use borrow.Author.Needs.{needs}
 use Rattle.machine.proofs.memory.store_byte.Statement.{statement}
 use Rattle.machine.proofs.memory.store_byte.Tie as tie
-use Rattle.machine.proofs.memory.store_byte.Reads as reads
-use Rattle.machine.proofs.memory.store_byte.Lts as lts
-use Rattle.machine.proofs.memory.data_start.Reads as data-start-reads
-use mathlib.Core.Path.{_≡_, _∙_, refl, sym}
-use native.Mathlib.Omega.{arith}
+use mathlib.Core.Path.{_≡_, sym}
 use Prim.Native.Nat.{ℕ, _<_, _≤_}
-use borrow.Author.Tests.{lt-ltb, le-ltb, eq-eqb, ne-eqb}
+use borrow.Author.Tests.{lt-ltb, le-ltb}
 use lib.ListN.{set, length}
 use lib.Seq.{set-out}
 use mathlib.Core.List.{List}
@@ -25,27 +21,21 @@ past : (kind : ℕ) (mem : List ℕ) (a v : ℕ) → dataStart kind ≤ a → le
 unfolding dataStored
 past kind mem a v h k = rw (le-ltb a (dataStart kind) h) (sym (set-out mem a v k))
 
--- src/memory.rt:37:9
 data-start-requires : tie.Need-data-start-requires
 data-start-requires c κs = search needs
 
--- src/memory.rt:40:9
 returns : tie.Need-returns
 returns c = let under : c .before .before .before .args .a < dataStart (c .before .before .before .args .kind) = rw (c .before .data-start .ensures) at (c .if1 .taken) in below _ _ _ _ under
 
--- src/memory.rt:43:9
 slice-write-mem : tie.Need-slice-write-mem
 slice-write-mem c = search needs
 
--- src/memory.rt:34:1
 same-length : tie.Need-same-length
 same-length c = search needs
 
--- src/memory.rt:34:1
 returns-2 : tie.Need-returns-2
 returns-2 c = let from : dataStart (c .before .before .before .before .args .kind) ≤ c .before .before .before .before .args .a = rw (c .before .before .data-start .ensures) at (c .before .if1 .left) in within _ _ _ _ from
 
--- src/memory.rt:34:1
 returns-3 : tie.Need-returns-3
 returns-3 c = let from : dataStart (c .before .before .before .before .args .kind) ≤ c .before .before .before .before .args .a = rw (c .before .before .data-start .ensures) at (c .before .if1 .left) in past _ (c .before .before .before .before .args .mem .now) _ _ from (c .if2 .left)
 

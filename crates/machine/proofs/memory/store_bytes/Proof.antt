@@ -1,76 +1,55 @@
 use borrow.Author.Needs.{needs}
 use Rattle.machine.proofs.memory.store_bytes.Statement.{statement}
 use Rattle.machine.proofs.memory.store_bytes.Tie as tie
-use Rattle.machine.proofs.memory.store_bytes.Reads as reads
-use Rattle.machine.proofs.memory.store_bytes.Lts as lts
-use Rattle.machine.proofs.memory.store_byte.Reads as store-byte-reads
-use Rattle.word.proofs.plus.Reads as plus-reads
 
--- src/memory.rt:50:9
 plus-requires : tie.Need-plus-requires
 plus-requires c κs = search needs
 
--- src/memory.rt:51:9
 plus-requires-2 : tie.Need-plus-requires-2
 plus-requires-2 c κs = search needs
 
--- src/memory.rt:53:20
 enum-known-b : tie.Need-enum-known-b
 enum-known-b c = search needs
 
--- src/memory.rt:54:13
 store-byte-requires : tie.Need-store-byte-requires
 store-byte-requires c κs = search needs
 
--- src/memory.rt:56:20
 enum-known-b-2 : tie.Need-enum-known-b-2
 enum-known-b-2 c = search needs
 
--- src/memory.rt:57:13
 store-byte-requires-2 : tie.Need-store-byte-requires-2
 store-byte-requires-2 c κs = search needs
 
--- src/memory.rt:58:13
 store-byte-requires-3 : tie.Need-store-byte-requires-3
 store-byte-requires-3 c κs = search needs
 
--- src/memory.rt:60:22
 enum-known-b-3 : tie.Need-enum-known-b-3
 enum-known-b-3 c = search needs
 
--- src/memory.rt:61:13
 store-byte-requires-4 : tie.Need-store-byte-requires-4
 store-byte-requires-4 c κs = search needs
 
--- src/memory.rt:62:13
 store-byte-requires-5 : tie.Need-store-byte-requires-5
 store-byte-requires-5 c κs = search needs
 
--- src/memory.rt:63:13
 store-byte-requires-6 : tie.Need-store-byte-requires-6
 store-byte-requires-6 c κs = search needs
 
--- src/memory.rt:47:1
 same-length : tie.Need-same-length
 same-length c = search needs
 
--- src/memory.rt:47:1
 returns : tie.Need-returns
 returns c = rw (c .before .before .store-byte .ensures, c .before .before .before .before .before .b .given .1)
 
--- src/memory.rt:47:1
 same-length-2 : tie.Need-same-length-2
 same-length-2 c = search needs
 
--- src/memory.rt:47:1
 returns-2 : tie.Need-returns-2
 returns-2 c = rw (c .before .before .store-byte3 .ensures, c .before .before .before .before .before .before .store-byte2 .ensures, c .before .before .before .before .before .before .before .before .before .before .before .before .plus .ensures, c .before .before .before .before .before .before .before .before .before .b2 .given .1)
 
--- src/memory.rt:47:1
 same-length-3 : tie.Need-same-length-3
 same-length-3 c = search needs
 
--- src/memory.rt:47:1
 returns-3 : tie.Need-returns-3
 returns-3 c = rw (c .before .before .store-byte6 .ensures, c .before .before .before .before .before .before .store-byte5 .ensures, c .before .before .before .before .before .before .before .before .before .before .store-byte4 .ensures, c .before .before .before .before .before .before .before .before .before .before .before .before .before .before .before .plus2 .ensures, c .before .before .before .before .before .before .before .before .before .before .before .before .before .before .before .before .plus .ensures, c .before .before .before .before .before .before .before .before .before .before .before .before .before .b3 .given .1)
 

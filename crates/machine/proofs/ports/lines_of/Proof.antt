@@ -1,47 +1,33 @@
 use borrow.Author.Needs.{needs}
 use Rattle.machine.proofs.ports.lines_of.Statement.{statement}
 use Rattle.machine.proofs.ports.lines_of.Tie as tie
-use Rattle.machine.proofs.ports.lines_of.Reads as reads
-use Rattle.machine.proofs.ports.lines_of.Lts as lts
-use Rattle.machine.proofs.ports.port0_lines.Reads as port0-lines-reads
-use Rattle.machine.proofs.ports.port1_lines.Reads as port1-lines-reads
-use Rattle.machine.proofs.ports.port2_lines.Reads as port2-lines-reads
-use Rattle.machine.proofs.ports.port3_lines.Reads as port3-lines-reads
 use Rattle.machine.specs.Ports.{linesOf}
 use Rattle.machine.proofs.Choices.{last-port}
 
--- src/ports.rt:66:14
 port0-lines-requires : tie.Need-port0-lines-requires
 port0-lines-requires c κs = search needs
 
--- src/ports.rt:67:14
 port1-lines-requires : tie.Need-port1-lines-requires
 port1-lines-requires c κs = search needs
 
--- src/ports.rt:68:14
 port2-lines-requires : tie.Need-port2-lines-requires
 port2-lines-requires c κs = search needs
 
--- src/ports.rt:69:14
 port3-lines-requires : tie.Need-port3-lines-requires
 port3-lines-requires c κs = search needs
 
--- src/ports.rt:62:1
 returns : tie.Need-returns
 unfolding linesOf
 returns c = rw (c .port0-lines .ensures, c .before .match .keys1)
 
--- src/ports.rt:62:1
 returns-2 : tie.Need-returns-2
 unfolding linesOf
 returns-2 c = rw (c .port1-lines .ensures, c .before .match .keys2)
 
--- src/ports.rt:62:1
 returns-3 : tie.Need-returns-3
 unfolding linesOf
 returns-3 c = rw (c .port2-lines .ensures, c .before .match .keys3)
 
--- src/ports.rt:62:1
 returns-4 : tie.Need-returns-4
 unfolding linesOf
 returns-4 c = rw (c .port3-lines .ensures) (last-port _ _ _ _ _ (c .before .match .rest .0 .0 .1) (c .before .match .rest .0 .1) (c .before .match .rest .1))

@@ -1,11 +1,8 @@
 use mathlib.Core.Path.{refl}
 use Rattle.machine.proofs.ports.masked.Statement.{statement}
 use Rattle.machine.proofs.ports.masked.Tie as tie
-use Rattle.machine.proofs.ports.masked.Reads as reads
-use Rattle.machine.proofs.ports.masked.Lts as lts
 use Rattle.machine.specs.Ports.{masked}
 
--- src/ports.rt:13:1
 returns : tie.Need-returns
 unfolding masked
 returns c = refl

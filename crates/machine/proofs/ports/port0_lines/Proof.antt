@@ -1,28 +1,20 @@
 use borrow.Author.Needs.{needs}
 use Rattle.machine.proofs.ports.port0_lines.Statement.{statement}
 use Rattle.machine.proofs.ports.port0_lines.Tie as tie
-use Rattle.machine.proofs.ports.port0_lines.Reads as reads
-use Rattle.machine.proofs.ports.port0_lines.Lts as lts
-use Rattle.machine.proofs.bits_if.Reads as bits-if-reads
 use Rattle.machine.specs.Ports.{port0Lines}
 
--- src/ports.rt:24:9
 bits-if-requires : tie.Need-bits-if-requires
 bits-if-requires c κs = search needs
 
--- src/ports.rt:25:9
 bits-if-requires-2 : tie.Need-bits-if-requires-2
 bits-if-requires-2 c κs = search needs
 
--- src/ports.rt:26:9
 bits-if-requires-3 : tie.Need-bits-if-requires-3
 bits-if-requires-3 c κs = search needs
 
--- src/ports.rt:27:9
 bits-if-requires-4 : tie.Need-bits-if-requires-4
 bits-if-requires-4 c κs = search needs
 
--- src/ports.rt:19:1
 returns : tie.Need-returns
 unfolding port0Lines
 returns c = rw (c .bits-if4 .ensures, c .before .bits-if3 .ensures, c .before .before .bits-if2 .ensures, c .before .before .before .bits-if .ensures)

@@ -1,11 +1,8 @@
 use mathlib.Core.Path.{refl}
 use Rattle.machine.proofs.ports.port2_lines.Statement.{statement}
 use Rattle.machine.proofs.ports.port2_lines.Tie as tie
-use Rattle.machine.proofs.ports.port2_lines.Reads as reads
-use Rattle.machine.proofs.ports.port2_lines.Lts as lts
 use Rattle.machine.specs.Ports.{port2Lines}
 
--- src/ports.rt:43:1
 returns : tie.Need-returns
 unfolding port2Lines
 returns c = refl

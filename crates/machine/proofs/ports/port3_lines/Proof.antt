@@ -1,11 +1,8 @@
 use mathlib.Core.Path.{refl}
 use Rattle.machine.proofs.ports.port3_lines.Statement.{statement}
 use Rattle.machine.proofs.ports.port3_lines.Tie as tie
-use Rattle.machine.proofs.ports.port3_lines.Reads as reads
-use Rattle.machine.proofs.ports.port3_lines.Lts as lts
 use Rattle.machine.specs.Ports.{port3Lines}
 
--- src/ports.rt:52:1
 returns : tie.Need-returns
 unfolding port3Lines
 returns c = refl

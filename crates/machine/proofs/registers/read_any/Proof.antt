@@ -1,10 +1,6 @@
 use borrow.Author.Needs.{needs}
 use Rattle.machine.proofs.registers.read_any.Statement.{statement}
 use Rattle.machine.proofs.registers.read_any.Tie as tie
-use Rattle.machine.proofs.registers.read_any.Reads as reads
-use Rattle.machine.proofs.registers.read_any.Lts as lts
-use Rattle.machine.proofs.registers.held.Reads as held-reads
-use Rattle.machine.proofs.registers.read_port.Reads as read-port-reads
 use borrow.Author.Tests.{lt-ltb, le-ltb, le-leb, lt-leb, ne-eqb}
 use mathlib.Core.Path.{_≡_, _∙_}
 use mathlib.Core.Logic.{⊎-elim}
@@ -46,59 +42,46 @@ control p m a h nb =
     let n4 : a ≡ 0xF4 → ⊥ = omega arith in
     simp (le-ltb, lt-leb, le-leb, ne-eqb)
 
--- src/registers.rt:53:17
 cast-result : tie.Need-cast-result
 cast-result c = search needs
 
--- src/registers.rt:55:17
 cast-result-2 : tie.Need-cast-result-2
 cast-result-2 c = search needs
 
--- src/registers.rt:57:17
 held-requires : tie.Need-held-requires
 held-requires c κs = search needs
 
--- src/registers.rt:51:24
 read-port-requires : tie.Need-read-port-requires
 read-port-requires c κs = search needs
 
--- src/registers.rt:58:14
 held-requires-2 : tie.Need-held-requires-2
 held-requires-2 c κs = search needs
 
--- src/registers.rt:45:1
 returns : tie.Need-returns
 unfolding readReg
 returns c = rw (c .before .match .keys1)
 
--- src/registers.rt:45:1
 returns-2 : tie.Need-returns-2
 unfolding readReg
 returns-2 c = rw (c .match .keys2)
 
--- src/registers.rt:45:1
 returns-3 : tie.Need-returns-3
 unfolding readReg
 returns-3 c = rw (c .before .match .keys3)
 
--- src/registers.rt:45:1
 returns-4 : tie.Need-returns-4
 unfolding readReg
 returns-4 c = rw (c .held .ensures, c .before .match .keys4)
 
--- src/registers.rt:45:1
 returns-5 : tie.Need-returns-5
 returns-5 c = c .read-port .ensures ∙ port _ _ _ (omega arith)
 
--- src/registers.rt:45:1
 returns-6 : tie.Need-returns-6
 returns-6 c = hole-reads _ _ _ (omega arith) (omega arith)
 
--- src/registers.rt:45:1
 returns-7 : tie.Need-returns-7
 returns-7 c = hidden _ _ _ (omega arith) (omega arith)
 
--- src/registers.rt:45:1
 returns-8 : tie.Need-returns-8
 returns-8 c = c .held2 .ensures ∙ ⊎-elim (λ w. general-reads _ _ _ (omega arith) (w .taken)) (⊎-elim (λ w. tmr _ _ _ (omega arith)) (λ w. control _ _ _ (w .3 .left) (c .before .before .before .match .rest .1))) (c .before .if2 .came)
 

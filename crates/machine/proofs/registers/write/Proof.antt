@@ -1,33 +1,23 @@
 use borrow.Author.Needs.{needs}
 use Rattle.machine.proofs.registers.write.Statement.{statement}
 use Rattle.machine.proofs.registers.write.Tie as tie
-use Rattle.machine.proofs.registers.write.Reads as reads
-use Rattle.machine.proofs.registers.write.Lts as lts
-use Rattle.machine.proofs.registers.is_general.Reads as is-general-reads
-use Rattle.machine.proofs.registers.place.Reads as place-reads
-use Rattle.machine.proofs.registers.write_any.Reads as write-any-reads
 use mathlib.Core.Path.{_∙_, sym}
 use Rattle.machine.specs.State.{placed}
 use Rattle.machine.proofs.Ranges.{general-range, general-stores}
 
--- src/registers.rt:108:9
 is-general-requires : tie.Need-is-general-requires
 is-general-requires c κs = search needs
 
--- src/registers.rt:110:9
 place-requires : tie.Need-place-requires
 place-requires c κs = search needs
 
--- src/registers.rt:111:9
 returns : tie.Need-returns
 unfolding placed
 returns c = let range = general-range _ (sym (c .before .before .before .is-general .ensures) ∙ c .before .before .if1 .taken) in rw (c .place .ensures) (general-stores _ _ _ (range .0) (range .1))
 
--- src/registers.rt:113:5
 write-any-requires : tie.Need-write-any-requires
 write-any-requires c κs = search needs
 
--- src/registers.rt:105:1
 returns-2 : tie.Need-returns-2
 returns-2 c = c .write-any .ensures
 

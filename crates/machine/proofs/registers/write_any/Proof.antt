@@ -1,11 +1,6 @@
 use borrow.Author.Needs.{needs}
 use Rattle.machine.proofs.registers.write_any.Statement.{statement}
 use Rattle.machine.proofs.registers.write_any.Tie as tie
-use Rattle.machine.proofs.registers.write_any.Reads as reads
-use Rattle.machine.proofs.registers.write_any.Lts as lts
-use Rattle.machine.proofs.clock.write_tmr.Reads as write-tmr-reads
-use Rattle.machine.proofs.registers.place.Reads as place-reads
-use Rattle.machine.proofs.registers.write_port.Reads as write-port-reads
 use borrow.Author.Tests.{lt-ltb, le-ltb, le-leb, lt-leb, ne-eqb}
 use mathlib.Core.Path.{_≡_, _∙_}
 use mathlib.Core.Logic.{⊎-elim}
@@ -27,54 +22,42 @@ control m a v h n1 na nd =
     let from : 0x80 ≤ a = omega arith in
     simp (le-ltb, lt-leb, le-leb, ne-eqb)
 
--- src/registers.rt:69:17
 write-tmr-requires : tie.Need-write-tmr-requires
 write-tmr-requires c κs = search needs
 
--- src/registers.rt:71:13
 place-requires : tie.Need-place-requires
 place-requires c κs = search needs
 
--- src/registers.rt:75:28
 mul-place : tie.Need-mul-place
 mul-place c = search needs
 
--- src/registers.rt:75:13
 place-requires-2 : tie.Need-place-requires-2
 place-requires-2 c κs = search needs
 
--- src/registers.rt:67:24
 write-port-requires : tie.Need-write-port-requires
 write-port-requires c κs = search needs
 
--- src/registers.rt:79:13
 place-requires-3 : tie.Need-place-requires-3
 place-requires-3 c κs = search needs
 
--- src/registers.rt:63:1
 returns : tie.Need-returns
 unfolding writeReg
 returns c = c .write-tmr .ensures ∙ rw (c .before .before .match .keys1)
 
--- src/registers.rt:63:1
 returns-2 : tie.Need-returns-2
 unfolding writeReg placed
 returns-2 c = rw (c .place .ensures, c .before .before .match .keys2)
 
--- src/registers.rt:63:1
 returns-3 : tie.Need-returns-3
 unfolding writeReg placed
 returns-3 c = rw (c .place2 .ensures, c .before .before .match .keys3)
 
--- src/registers.rt:63:1
 returns-4 : tie.Need-returns-4
 returns-4 c = c .write-port .ensures ∙ port _ _ _ (omega arith)
 
--- src/registers.rt:63:1
 returns-5 : tie.Need-returns-5
 returns-5 c = hole-drops _ _ _ (omega arith) (omega arith)
 
--- src/registers.rt:63:1
 returns-6 : tie.Need-returns-6
 unfolding placed
 returns-6 c = let r = c .before .before .before .before .match .rest in rw (c .place3 .ensures) (⊎-elim (λ w. general-stores _ _ _ (omega arith) (w .taken)) (λ w. control _ _ _ (w .1 .left) (r .0 .0 .1) (r .0 .1) (r .1)) (c .before .before .if2 .came))

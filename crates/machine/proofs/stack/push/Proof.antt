@@ -1,32 +1,22 @@
 use borrow.Author.Needs.{needs}
 use Rattle.machine.proofs.stack.push.Statement.{statement}
 use Rattle.machine.proofs.stack.push.Tie as tie
-use Rattle.machine.proofs.stack.push.Reads as reads
-use Rattle.machine.proofs.stack.push.Lts as lts
-use Rattle.machine.proofs.stack.is_inside.Reads as is-inside-reads
-use Rattle.machine.proofs.stack.push_inside.Reads as push-inside-reads
-use Rattle.machine.proofs.stack.push_outside.Reads as push-outside-reads
 use Rattle.machine.specs.Stack.{pushed}
 use mathlib.Core.Path.{_∙_}
 
--- src/stack.rt:108:9
 is-inside-requires : tie.Need-is-inside-requires
 is-inside-requires c κs = search needs
 
--- src/stack.rt:110:9
 push-inside-requires : tie.Need-push-inside-requires
 push-inside-requires c κs = search needs
 
--- src/stack.rt:112:9
 push-outside-requires : tie.Need-push-outside-requires
 push-outside-requires c κs = search needs
 
--- src/stack.rt:105:1
 returns : tie.Need-returns
 unfolding pushed
 returns c = c .push-inside .ensures ∙ rw (← c .before .before .before .is-inside .ensures, c .before .before .if1 .taken)
 
--- src/stack.rt:105:1
 returns-2 : tie.Need-returns-2
 unfolding pushed
 returns-2 c = c .push-outside .ensures ∙ rw (← c .before .before .before .is-inside .ensures, c .before .before .if1 .left)

@@ -1,64 +1,46 @@
 use borrow.Author.Needs.{needs}
 use Rattle.machine.proofs.stack.write_from.Statement.{statement}
 use Rattle.machine.proofs.stack.write_from.Tie as tie
-use Rattle.machine.proofs.stack.write_from.Reads as reads
-use Rattle.machine.proofs.stack.write_from.Lts as lts
-use Rattle.machine.proofs.registers.write.Reads as write-reads
-use Rattle.std.proofs.num.wrapping_add_u8.Reads as wrapping-add-u8-reads
 
--- src/stack.rt:59:9
 wrapping-add-u8-requires : tie.Need-wrapping-add-u8-requires
 wrapping-add-u8-requires c κs = search needs
 
--- src/stack.rt:60:9
 wrapping-add-u8-requires-2 : tie.Need-wrapping-add-u8-requires-2
 wrapping-add-u8-requires-2 c κs = search needs
 
--- src/stack.rt:62:20
 enum-known-b : tie.Need-enum-known-b
 enum-known-b c = search needs
 
--- src/stack.rt:62:26
 write-requires : tie.Need-write-requires
 write-requires c κs = search needs
 
--- src/stack.rt:63:20
 enum-known-b-2 : tie.Need-enum-known-b-2
 enum-known-b-2 c = search needs
 
--- src/stack.rt:64:17
 write-requires-2 : tie.Need-write-requires-2
 write-requires-2 c κs = search needs
 
--- src/stack.rt:65:13
 write-requires-3 : tie.Need-write-requires-3
 write-requires-3 c κs = search needs
 
--- src/stack.rt:67:22
 enum-known-b-3 : tie.Need-enum-known-b-3
 enum-known-b-3 c = search needs
 
--- src/stack.rt:68:17
 write-requires-4 : tie.Need-write-requires-4
 write-requires-4 c κs = search needs
 
--- src/stack.rt:69:17
 write-requires-5 : tie.Need-write-requires-5
 write-requires-5 c κs = search needs
 
--- src/stack.rt:70:13
 write-requires-6 : tie.Need-write-requires-6
 write-requires-6 c κs = search needs
 
--- src/stack.rt:56:1
 returns : tie.Need-returns
 returns c = rw (c .write .ensures, c .before .before .before .b .given .1)
 
--- src/stack.rt:56:1
 returns-2 : tie.Need-returns-2
 returns-2 c = rw (c .write3 .ensures, c .before .before .write2 .ensures, c .before .before .before .before .before .before .before .before .wrapping-add-u8 .ensures, c .before .before .before .before .before .b2 .given .1)
 
--- src/stack.rt:56:1
 returns-3 : tie.Need-returns-3
 returns-3 c = rw (c .write6 .ensures, c .before .before .write5 .ensures, c .before .before .before .before .write4 .ensures, c .before .before .before .before .before .before .before .before .before .wrapping-add-u82 .ensures, c .before .before .before .before .before .before .before .before .before .before .wrapping-add-u8 .ensures, c .before .before .before .before .before .before .before .b3 .given .1)
 
