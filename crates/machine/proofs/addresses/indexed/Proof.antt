@@ -11,7 +11,7 @@ wrapping-add-u8-requires c κs = search needs
 
 returns : tie.Need-returns
 unfolding indexedAt
-returns c = rw (c .wrapping-add-u8 .ensures, c .before .working-indirect .ensures)
+returns c = simp (c .wrapping-add-u8 .ensures, c .before .working-indirect .ensures)
 
 pub indexed-spec : {M : Type 1} → statement M
 indexed-spec = tie.close (tie.spec working-indirect-requires wrapping-add-u8-requires returns)

@@ -11,7 +11,7 @@ found-requires c κs = search needs
 
 returns : tie.Need-returns
 unfolding indirectAt
-returns c = rw (c .found .ensures, c .before .register .ensures)
+returns c = simp (c .found .ensures, c .before .register .ensures)
 
 pub indirect-spec : {M : Type 1} → statement M
 indirect-spec = tie.close (tie.spec register-requires found-requires returns)

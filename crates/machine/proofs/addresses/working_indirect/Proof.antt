@@ -11,7 +11,7 @@ found-requires c κs = search needs
 
 returns : tie.Need-returns
 unfolding workingIndirectAt
-returns c = rw (c .found .ensures, c .before .working .ensures)
+returns c = simp (c .found .ensures, c .before .working .ensures)
 
 pub working-indirect-spec : {M : Type 1} → statement M
 working-indirect-spec = tie.close (tie.spec working-requires found-requires returns)

@@ -23,7 +23,7 @@ write-requires-2 c κs = search needs
 
 returns : tie.Need-returns
 unfolding writePair
-returns c = rw (c .write2 .ensures, c .before .before .write .ensures, c .before .before .before .before .low-byte .ensures, c .before .before .before .before .before .high-byte .ensures, c .before .before .before .before .before .before .even .ensures .0)
+returns c = simp (c .write2 .ensures, c .before .before .write .ensures, c .before .before .before .before .low-byte .ensures, c .before .before .before .before .before .high-byte .ensures, c .before .before .before .before .before .before .even .ensures .0)
 
 pub write-pair-spec : {M : Type 1} → statement M
 write-pair-spec =

@@ -24,7 +24,7 @@ core-at-requires c κs = search needs
 
 returns : tie.Need-returns
 unfolding writeTmr countsAt placed
-returns c = rw (c .core-at .ensures, c .before .place .ensures, c .before .before .before .kept .ensures, c .before .before .before .before .write-tmr .ensures, c .before .before .before .before .before .moving-of .ensures, c .before .before .before .before .before .before .before .control-with .ensures)
+returns c = simp (c .core-at .ensures, c .before .place .ensures, c .before .before .before .kept .ensures, c .before .before .before .before .write-tmr .ensures, c .before .before .before .before .before .moving-of .ensures, c .before .before .before .before .before .before .before .control-with .ensures)
 
 pub write-tmr-spec : {M : Type 1} → statement M
 write-tmr-spec =
