@@ -71,7 +71,7 @@ same-length c = simp length-set
 
 returns : tie.Need-returns
 unfolding restOf
-returns c = rw (c .one-if .ensures, c .before .low5 .ensures, c .before .before .low4 .ensures, c .before .before .before .low3 .ensures, c .before .before .before .before .low2 .ensures, c .before .before .before .before .before .low .ensures, c .before .before .before .before .before .before .low-byte .ensures, c .before .before .before .before .before .before .before .high-byte .ensures) (stores (restOf (c .before .before .before .before .before .before .before .before .before .before .before .args .m)) (c .before .before .before .before .before .before .before .before .before .before .before .args .rest .now) (omega arith))
+returns c = simp (c .one-if .ensures, c .before .low5 .ensures, c .before .before .low4 .ensures, c .before .before .before .low3 .ensures, c .before .before .before .before .low2 .ensures, c .before .before .before .before .before .low .ensures, c .before .before .before .before .before .before .low-byte .ensures, c .before .before .before .before .before .before .before .high-byte .ensures) (stores (restOf (c .before .before .before .before .before .before .before .before .before .before .before .args .m)) (c .before .before .before .before .before .before .before .before .before .before .before .args .rest .now) (omega arith))
 
 pub put-rest-spec : {M : Type 1} → statement M
 put-rest-spec =
