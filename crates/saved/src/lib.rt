@@ -1,7 +1,6 @@
 // A machine as 268 bytes, and back (01 "Numbers the encoder sees").
 ghost use mathlib.Core.Path.{_≡_};
-ghost use mathlib.Core.List.{_++_};
-ghost use lib.ListN.{length, take, drop};
+ghost use lib.ListN.{length, take};
 ghost use Rattle.word.specs.Choose.{oneIf};
 ghost use Rattle.word.specs.Fields.{lowByte};
 ghost use Rattle.machine.specs.Legal.{Legal};
@@ -16,17 +15,26 @@ pub struct Loaded {
     pub machine: Machine,
 }
 
+// One slice's bytes into another that is as long.
+fn copy(to: &mut [u8], from: &[u8])
+    requires { ⌜ length (now to) ≡ length (now from) ⌝ }
+    ensures { λ _. ⌜ now (to .exit) ≡ now (from .entry) ⌝ }
+{
+    let n = from.len();
+    let mut i: usize = 0;
+    while i < n {
+        to[i] = from[i];
+        i = i + 1;
+    }
+}
+
 // The first 256 bytes.
 fn file_of(saved: &[u8]) -> [u8; 256]
     requires { ⌜ length (now saved) ≡ 268 ⌝ }
     ensures { λ r. ⌜ r ≡ take 256 (now (saved .entry)) ⌝ }
 {
     let mut file = [0u8; 256];
-    let mut i: usize = 0;
-    while i < 256 {
-        file[i] = saved[i];
-        i = i + 1;
-    }
+    copy(&mut file, &saved[0..256]);
     file
 }
 
@@ -150,17 +158,6 @@ pub fn load(saved: &[u8]) -> Loaded
     }
 }
 
-fn put_file(saved: &mut [u8], file: [u8; 256])
-    requires { ⌜ length (now saved) ≡ 268 ⌝ }
-    ensures { λ _. ⌜ now (saved .exit) ≡ file ++ drop 256 (now (saved .entry)) ⌝ }
-{
-    let mut i: usize = 0;
-    while i < 256 {
-        saved[i] = file[i];
-        i = i + 1;
-    }
-}
-
 fn low(n: u32) -> u8
     ensures { λ r. ⌜ r ≡ lowByte n ⌝ }
 {
@@ -173,9 +170,9 @@ fn one_if(b: bool) -> u8
     if b { 1 } else { 0 }
 }
 
-fn put_rest(rest: &mut [u8], m: Machine)
-    requires { ⌜ length (now rest) ≡ 12 ⌝ }
-    ensures { λ _. ⌜ now (rest .exit) ≡ restOf m ⌝ }
+// The last twelve bytes.
+fn rest_of(m: Machine) -> [u8; 12]
+    ensures { λ r. ⌜ r ≡ restOf m ⌝ }
 {
     let t0 = m.t0;
     let t1 = m.t1;
@@ -187,18 +184,20 @@ fn put_rest(rest: &mut [u8], m: Machine)
     let prescaler1 = low(t1.prescaler);
     let counter1 = low(t1.counter);
     let tout = one_if(m.tout);
-    rest[0] = pc_high;
-    rest[1] = pc_low;
-    rest[2] = divider;
-    rest[3] = prescaler0;
-    rest[4] = counter0;
-    rest[5] = prescaler1;
-    rest[6] = counter1;
-    rest[7] = m.last3;
-    rest[8] = tout;
-    rest[9] = m.kind;
-    rest[10] = m.cost;
-    rest[11] = 0;
+    [
+        pc_high,
+        pc_low,
+        divider,
+        prescaler0,
+        counter0,
+        prescaler1,
+        counter1,
+        m.last3,
+        tout,
+        m.kind,
+        m.cost,
+        0,
+    ]
 }
 
 // A machine into its 268 bytes.
@@ -207,6 +206,7 @@ pub fn save(saved: &mut [u8], m: Machine)
     ensures { λ _. ⌜ now (saved .exit) ≡ savedOf m ⌝ }
 {
     let file = m.regs;
-    put_file(saved, file);
-    put_rest(&mut saved[256..], m);
+    let rest = rest_of(m);
+    copy(&mut saved[0..256], &file);
+    copy(&mut saved[256..], &rest);
 }

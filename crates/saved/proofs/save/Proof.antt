@@ -1,48 +1,71 @@
 use borrow.Author.Needs.{needs}
 use Rattle.saved.proofs.save.Statement.{statement}
 use Rattle.saved.proofs.save.Tie as tie
-use mathlib.Core.Path.{_≡_}
+use mathlib.Core.Path.{_≡_, _∙_, sym}
 use native.Mathlib.Omega.{arith}
 use lib.ListN.{length}
+use lib.Seq.{length-take-le}
+use borrow.Rule.Slice.PartMut.{postOf}
 use Rattle.saved.specs.Saved.{savedOf, restOf}
-use Rattle.saved.proofs.Lists.{put-end}
+use Rattle.saved.proofs.Lists.{put-behind}
 
 long : (s : tie.Start) → length (s .args .m .regs) ≡ 256
 long s = search needs
 
-put-file-requires : tie.Need-put-file-requires
-put-file-requires c κs = search needs
+rest-of-requires : tie.Need-rest-of-requires
+rest-of-requires c κs = search needs
 
-sub-put-rest : tie.Need-sub-put-rest
-sub-put-rest c = search needs
+sub-copy : tie.Need-sub-copy
+sub-copy c = search needs
 
-part-put-rest-start : tie.Need-part-put-rest-start
-part-put-rest-start c = search needs
+part-copy-start : tie.Need-part-copy-start
+part-copy-start c = search needs
 
-part-put-rest-end : tie.Need-part-put-rest-end
-part-put-rest-end c = search needs
+part-copy-end : tie.Need-part-copy-end
+part-copy-end c = search needs
 
-put-rest-requires : tie.Need-put-rest-requires
-put-rest-requires c κs = search needs
+slice-aggregate-copy : tie.Need-slice-aggregate-copy
+slice-aggregate-copy c = search needs
+
+copy-requires : tie.Need-copy-requires
+copy-requires c κs = length-take-le 256 (c .before .before .before .before .before .args .saved .now) (omega (arith, c .before .before .before .before .before .pre)) ∙ sym (long (c .before .before .before .before .before))
+
+sub-copy-2 : tie.Need-sub-copy-2
+sub-copy-2 c = search needs
+
+part-copy-start-2 : tie.Need-part-copy-start-2
+part-copy-start-2 c = search needs
+
+part-copy-end-2 : tie.Need-part-copy-end-2
+part-copy-end-2 c = search needs
+
+slice-aggregate-copy-2 : tie.Need-slice-aggregate-copy-2
+slice-aggregate-copy-2 c = search needs
+
+copy-requires-2 : tie.Need-copy-requires-2
+copy-requires-2 c κs = search needs
 
 same-length : tie.Need-same-length
 same-length c = search needs
 
 returns : tie.Need-returns
 unfolding savedOf
-returns c =
-    let k : length (c .before .before .before .before .before .before .put-file .last .0) ≡ 268 = omega (arith, c .before .before .before .before .before .before .put-file .kept .0, c .before .before .before .before .before .before .before .before .before .before .pre) in
-    rw (c .before .before .put-rest .ensures)
-    (put-end 256 (c .before .before .before .before .before .before .before .before .before .before .args .m .regs) _ (restOf (c .before .before .before .before .before .before .before .before .before .before .args .m)) (c .before .before .before .before .before .before .put-file .last .0) (long (c .before .before .before .before .before .before .before .before .before .before)) (omega arith) (c .before .before .before .before .before .before .put-file .ensures))
+returns c = rw (c .before .before .copy2 .ensures, c .before .before .before .before .before .before .before .before .before .before .rest-of .ensures) (put-behind 256 (c .before .before .before .before .before .before .before .before .before .before .before .before .before .args .m .regs) (c .before .before .before .before .before .before .before .copy .last .0) (postOf 0 256 (c .before .before .before .before .before .before .before .before .before .before .before .before .before .args .saved .now)) (restOf (c .before .before .before .before .before .before .before .before .before .before .before .before .before .args .m)) (long (c .before .before .before .before .before .before .before .before .before .before .before .before .before)) (c .before .before .before .before .before .before .before .copy .ensures))
 
 pub save-spec : {M : Type 1} → statement M
 save-spec =
     tie.close
     (tie.spec
-    put-file-requires
-    sub-put-rest
-    part-put-rest-start
-    part-put-rest-end
-    put-rest-requires
+    rest-of-requires
+    sub-copy
+    part-copy-start
+    part-copy-end
+    slice-aggregate-copy
+    copy-requires
+    sub-copy-2
+    part-copy-start-2
+    part-copy-end-2
+    slice-aggregate-copy-2
+    copy-requires-2
     same-length
     returns)
