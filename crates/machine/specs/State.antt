@@ -47,3 +47,20 @@ held m a = heldIn (m .regs) a
 
 unfoldable pub placed : Machine → ℕ → ℕ → Machine
 placed m a v = whole (placedIn (m .regs) a v) (coreOf m)
+
+-- a machine, as its rest and whole, at another program counter
+abbrev pub atPc : Core → ℕ → Core
+atPc k pc =
+    record {
+      pc = pc;
+      divider = k .divider;
+      t0 = k .t0;
+      t1 = k .t1;
+      last3 = k .last3;
+      tout = k .tout;
+      kind = k .kind;
+      cost = k .cost;
+    }
+
+unfoldable pub withPc : Machine → ℕ → Machine
+withPc m pc = whole (m .regs) (atPc (coreOf m) pc)

@@ -10,7 +10,7 @@ pub mod start;
 
 use timers::Timer;
 ghost use mathlib.Core.Path.{_≡_};
-ghost use Rattle.machine.specs.State.{whole, coreOf};
+ghost use Rattle.machine.specs.State.{whole, coreOf, atPc};
 ghost use Rattle.machine.specs.Ports.{bitsIf};
 
 // 01's machine: the register file in address order, the program counter, the divider, both timers' counts in progress, the last Port 3
@@ -93,6 +93,15 @@ pub fn machine_of(regs: [u8; 256], k: Core) -> Machine
         kind: k.kind,
         cost: k.cost,
     }
+}
+
+// The same at another program counter.
+pub fn at_pc(k: Core, pc: u16) -> Core
+    ensures { λ r. ⌜ r ≡ atPc k pc ⌝ }
+{
+    let mut n = k;
+    n.pc = pc;
+    n
 }
 
 // These bits where the test holds, else none.

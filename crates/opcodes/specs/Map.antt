@@ -8,7 +8,11 @@ use Rattle.word.specs.Fields.{upper, lower}
 use Rattle.opcodes.specs.declared.Entry.{Entry}
 use Rattle.opcodes.specs.declared.Entry.the-variants.{Blank, Of}
 use Rattle.opcodes.specs.declared.Kind.{Kind}
-use Rattle.opcodes.specs.declared.Kind.the-variants.{Adc, Add, And, Call, Ccf, Clr, Com, Cp, Da, Dec, Decw, Di, Djnz, Ei, Inc, Incw, Iret, Jp, Jr, Ld, Ldc, Ldci, Lde, Ldei, Nop, Or, Pop, Push, Rcf, Ret, Rl, Rlc, Rr, Rrc, Sbc, Scf, Sra, Srp, Sub, Swap, Tcm, Tm, Xor}
+use Rattle.opcodes.specs.declared.Kind.the-variants.{Binary, Test, Unary, Paired, Call, Ccf, Clr, Da, Di, Djnz, Ei, Iret, Jp, Jr, Ld, Ldc, Ldci, Lde, Ldei, Nop, Pop, Push, Rcf, Ret, Scf, Srp}
+use Rattle.opcodes.specs.declared.Binary.the-variants as binary
+use Rattle.opcodes.specs.declared.Test.the-variants as test
+use Rattle.opcodes.specs.declared.Unary.the-variants as unary
+use Rattle.opcodes.specs.declared.Paired.the-variants as paired
 use Rattle.opcodes.specs.declared.One.{One}
 use Rattle.opcodes.specs.declared.One.the-variants as one
 use Rattle.opcodes.specs.declared.Two.{Two}
@@ -92,6 +96,70 @@ DA = target.Direct
 
 abbrev pub IRR : Target
 IRR = target.Pair
+
+-- Pages that differ in the result alone are one kind; here each has its mnemonic.
+abbrev pub Adc : Two → Kind
+Adc w = Binary binary.Adc w
+
+abbrev pub Add : Two → Kind
+Add w = Binary binary.Add w
+
+abbrev pub And : Two → Kind
+And w = Binary binary.And w
+
+abbrev pub Or : Two → Kind
+Or w = Binary binary.Or w
+
+abbrev pub Sbc : Two → Kind
+Sbc w = Binary binary.Sbc w
+
+abbrev pub Sub : Two → Kind
+Sub w = Binary binary.Sub w
+
+abbrev pub Xor : Two → Kind
+Xor w = Binary binary.Xor w
+
+abbrev pub Cp : Two → Kind
+Cp w = Test test.Cp w
+
+abbrev pub Tcm : Two → Kind
+Tcm w = Test test.Tcm w
+
+abbrev pub Tm : Two → Kind
+Tm w = Test test.Tm w
+
+abbrev pub Com : One → Kind
+Com w = Unary unary.Com w
+
+abbrev pub Dec : One → Kind
+Dec w = Unary unary.Dec w
+
+abbrev pub Inc : One → Kind
+Inc w = Unary unary.Inc w
+
+abbrev pub Rl : One → Kind
+Rl w = Unary unary.Rl w
+
+abbrev pub Rlc : One → Kind
+Rlc w = Unary unary.Rlc w
+
+abbrev pub Rr : One → Kind
+Rr w = Unary unary.Rr w
+
+abbrev pub Rrc : One → Kind
+Rrc w = Unary unary.Rrc w
+
+abbrev pub Sra : One → Kind
+Sra w = Unary unary.Sra w
+
+abbrev pub Swap : One → Kind
+Swap w = Unary unary.Swap w
+
+abbrev pub Decw : One → Kind
+Decw w = Paired paired.Decw w
+
+abbrev pub Incw : One → Kind
+Incw w = Paired paired.Incw w
 
 -- an instruction in a row, where a blank area is `Blank ∷`
 infixr 67 _│_

@@ -53,24 +53,57 @@ pub enum Target {
     Pair,
 }
 
-// The kind of an instruction: its page in chapter 5, and its address modes where the page has several.
+// The pages that make a result of destination and source and store it in the destination.
+pub enum Binary {
+    Adc,
+    Add,
+    And,
+    Or,
+    Sbc,
+    Sub,
+    Xor,
+}
+
+// The pages that test destination and source, and store nothing.
+pub enum Test {
+    Cp,
+    Tcm,
+    Tm,
+}
+
+// The pages that make a result of the destination alone.
+pub enum Unary {
+    Com,
+    Dec,
+    Inc,
+    Rl,
+    Rlc,
+    Rr,
+    Rrc,
+    Sra,
+    Swap,
+}
+
+// The same for a register pair.
+pub enum Paired {
+    Decw,
+    Incw,
+}
+
+// The kind of an instruction: its page in chapter 5, and its address modes where the page has several. Pages that differ in the
+// result alone are one kind.
 pub enum Kind {
-    Adc(Two),
-    Add(Two),
-    And(Two),
+    Binary(Binary, Two),
+    Test(Test, Two),
+    Unary(Unary, One),
+    Paired(Paired, One),
     Call(Target),
     Ccf,
     Clr(One),
-    Com(One),
-    Cp(Two),
     Da(One),
-    Dec(One),
-    Decw(One),
     Di,
     Djnz,
     Ei,
-    Inc(One),
-    Incw(One),
     Iret,
     Jp(Target),
     Jr,
@@ -80,24 +113,12 @@ pub enum Kind {
     Lde(Way),
     Ldei(Way),
     Nop,
-    Or(Two),
     Pop(One),
     Push(One),
     Rcf,
     Ret,
-    Rl(One),
-    Rlc(One),
-    Rr(One),
-    Rrc(One),
-    Sbc(Two),
     Scf,
-    Sra(One),
     Srp,
-    Sub(Two),
-    Swap(One),
-    Tcm(Two),
-    Tm(Two),
-    Xor(Two),
 }
 
 // What the map has at an opcode.

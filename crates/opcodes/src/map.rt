@@ -1,10 +1,14 @@
 // What the map has at an opcode, by the opcode's nibbles. A last range to 255 stands for the nibble's 15: ranges that cover the
 // byte need no `_` arm.
+use crate::Binary;
 use crate::Entry;
 use crate::Kind;
 use crate::One;
+use crate::Paired;
 use crate::Target;
+use crate::Test;
 use crate::Two;
+use crate::Unary;
 use crate::Way;
 ghost use mathlib.Core.Path.{_≡_};
 ghost use Prim.Native.Nat.{_≤_, _<_};
@@ -26,7 +30,7 @@ pub fn entry_of(op: u8) -> Entry
         11 => Entry::Of(Kind::Jr),
         12 => Entry::Of(Kind::Ld(Two::WorkImm)),
         13 => Entry::Of(Kind::Jp(Target::Direct)),
-        14 => Entry::Of(Kind::Inc(One::Work)),
+        14 => Entry::Of(Kind::Unary(Unary::Inc, One::Work)),
         15..=255 => alone(op),
     }
 }
@@ -47,9 +51,9 @@ fn one_operand(op: u8) -> Entry
     let lo = word::lower(op);
     let m = one_mode(lo);
     match hi {
-        0 => Entry::Of(Kind::Dec(m)),
-        1 => Entry::Of(Kind::Rlc(m)),
-        2 => Entry::Of(Kind::Inc(m)),
+        0 => Entry::Of(Kind::Unary(Unary::Dec, m)),
+        1 => Entry::Of(Kind::Unary(Unary::Rlc, m)),
+        2 => Entry::Of(Kind::Unary(Unary::Inc, m)),
         3 => if lo == 0 {
             Entry::Of(Kind::Jp(Target::Pair))
         } else {
@@ -57,16 +61,16 @@ fn one_operand(op: u8) -> Entry
         },
         4 => Entry::Of(Kind::Da(m)),
         5 => Entry::Of(Kind::Pop(m)),
-        6 => Entry::Of(Kind::Com(m)),
+        6 => Entry::Of(Kind::Unary(Unary::Com, m)),
         7 => Entry::Of(Kind::Push(m)),
-        8 => Entry::Of(Kind::Decw(m)),
-        9 => Entry::Of(Kind::Rl(m)),
-        10 => Entry::Of(Kind::Incw(m)),
+        8 => Entry::Of(Kind::Paired(Paired::Decw, m)),
+        9 => Entry::Of(Kind::Unary(Unary::Rl, m)),
+        10 => Entry::Of(Kind::Paired(Paired::Incw, m)),
         11 => Entry::Of(Kind::Clr(m)),
-        12 => Entry::Of(Kind::Rrc(m)),
-        13 => Entry::Of(Kind::Sra(m)),
-        14 => Entry::Of(Kind::Rr(m)),
-        15..=255 => Entry::Of(Kind::Swap(m)),
+        12 => Entry::Of(Kind::Unary(Unary::Rrc, m)),
+        13 => Entry::Of(Kind::Unary(Unary::Sra, m)),
+        14 => Entry::Of(Kind::Unary(Unary::Rr, m)),
+        15..=255 => Entry::Of(Kind::Unary(Unary::Swap, m)),
     }
 }
 
@@ -80,8 +84,8 @@ fn middle(op: u8) -> Entry
     match hi {
         0..=7 => two_operands(op),
         8..=9 => data_memory(op),
-        10 => Entry::Of(Kind::Cp(m)),
-        11 => Entry::Of(Kind::Xor(m)),
+        10 => Entry::Of(Kind::Test(Test::Cp, m)),
+        11 => Entry::Of(Kind::Binary(Binary::Xor, m)),
         12..=13 => program_memory(op),
         14..=255 => loads(op),
     }
@@ -111,14 +115,14 @@ fn two_operands(op: u8) -> Entry
     let hi = word::upper(op);
     let m = two_modes(word::lower(op));
     match hi {
-        0 => Entry::Of(Kind::Add(m)),
-        1 => Entry::Of(Kind::Adc(m)),
-        2 => Entry::Of(Kind::Sub(m)),
-        3 => Entry::Of(Kind::Sbc(m)),
-        4 => Entry::Of(Kind::Or(m)),
-        5 => Entry::Of(Kind::And(m)),
-        6 => Entry::Of(Kind::Tcm(m)),
-        7..=255 => Entry::Of(Kind::Tm(m)),
+        0 => Entry::Of(Kind::Binary(Binary::Add, m)),
+        1 => Entry::Of(Kind::Binary(Binary::Adc, m)),
+        2 => Entry::Of(Kind::Binary(Binary::Sub, m)),
+        3 => Entry::Of(Kind::Binary(Binary::Sbc, m)),
+        4 => Entry::Of(Kind::Binary(Binary::Or, m)),
+        5 => Entry::Of(Kind::Binary(Binary::And, m)),
+        6 => Entry::Of(Kind::Test(Test::Tcm, m)),
+        7..=255 => Entry::Of(Kind::Test(Test::Tm, m)),
     }
 }
 

@@ -3,8 +3,8 @@ use Rattle.opcodes.proofs.map.entry_of.Statement.{statement}
 use Rattle.opcodes.proofs.map.entry_of.Tie as tie
 use native.Mathlib.Omega.{arith}
 use mathlib.Core.Path.{_≡_, refl}
-use Rattle.opcodes.specs.Map.{entryOf, opcodeMap, r, r-R, R-r, r-IM, DA}
-use Rattle.opcodes.specs.declared.Kind.the-variants.{Ld, Djnz, Jr, Jp, Inc}
+use Rattle.opcodes.specs.Map.{entryOf, opcodeMap, r, r-R, R-r, r-IM, DA, Inc}
+use Rattle.opcodes.specs.declared.Kind.the-variants.{Ld, Djnz, Jr, Jp}
 use Rattle.opcodes.specs.declared.Entry.the-variants.{Of}
 use Rattle.word.proofs.Computed.{last}
 use Rattle.opcodes.proofs.Cells.{in-part}

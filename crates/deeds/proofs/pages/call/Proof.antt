@@ -1,0 +1,14 @@
+use borrow.Author.Needs.{needs}
+use Rattle.deeds.proofs.pages.call.Statement.{statement}
+use Rattle.deeds.proofs.pages.call.Tie as tie
+use Rattle.deeds.specs.Pages.{callDeed}
+
+target-requires : tie.Need-target-requires
+target-requires c κs = search needs
+
+returns : tie.Need-returns
+unfolding callDeed
+returns c = rw (c .target .ensures)
+
+pub call-spec : {M : Type 1} → statement M
+call-spec = tie.close (tie.spec target-requires returns)

@@ -1,0 +1,25 @@
+use borrow.Author.Needs.{needs}
+use Rattle.deeds.proofs.pages.djnz.Statement.{statement}
+use Rattle.deeds.proofs.pages.djnz.Tie as tie
+use Rattle.deeds.specs.Pages.{djnzDeed}
+
+upper-requires : tie.Need-upper-requires
+upper-requires c κs = search needs
+
+read-requires : tie.Need-read-requires
+read-requires c κs = search needs
+
+wrapping-add-u8-requires : tie.Need-wrapping-add-u8-requires
+wrapping-add-u8-requires c κs = search needs
+
+moved-requires : tie.Need-moved-requires
+moved-requires c κs = search needs
+
+returns : tie.Need-returns
+unfolding djnzDeed
+returns c = rw (c .moved .ensures, c .before .wrapping-add-u8 .ensures, c .before .before .read .ensures, c .before .before .before .upper .ensures)
+
+pub djnz-spec : {M : Type 1} → statement M
+djnz-spec =
+    tie.close
+    (tie.spec upper-requires read-requires wrapping-add-u8-requires moved-requires returns)

@@ -1,0 +1,25 @@
+use borrow.Author.Needs.{needs}
+use Rattle.deeds.proofs.pages.iret.Statement.{statement}
+use Rattle.deeds.proofs.pages.iret.Tie as tie
+use Rattle.deeds.specs.Pages.{iretDeed}
+
+byte-at-requires : tie.Need-byte-at-requires
+byte-at-requires c κs = search needs
+
+byte-at-requires-2 : tie.Need-byte-at-requires-2
+byte-at-requires-2 c κs = search needs
+
+byte-at-requires-3 : tie.Need-byte-at-requires-3
+byte-at-requires-3 c κs = search needs
+
+word-requires : tie.Need-word-requires
+word-requires c κs = search needs
+
+returns : tie.Need-returns
+unfolding iretDeed
+returns c = rw (c .word .ensures, c .before .byte-at3 .ensures, c .before .before .byte-at2 .ensures, c .before .before .before .byte-at .ensures)
+
+pub iret-spec : {M : Type 1} → statement M
+iret-spec =
+    tie.close
+    (tie.spec byte-at-requires byte-at-requires-2 byte-at-requires-3 word-requires returns)

@@ -1,0 +1,57 @@
+// What an instruction is to do, with everything read that it needs and nothing written yet: "Operand addresses and source values are taken
+// before anything is written, with RP as it stood" (01). The room `execute` does it.
+use alu::Flags;
+use alu::Outcome;
+use alu::WordOutcome;
+
+pub mod modes;
+pub mod pages;
+mod results;
+
+// An instruction's bytes: the opcode and the two that follow it.
+pub struct Code {
+    pub op: u8,
+    pub first: u8,
+    pub second: u8,
+}
+
+// Two operands: the destination's address and the source's value.
+pub struct Operands {
+    pub dst: u8,
+    pub src: u8,
+}
+
+// A byte moved without a look at flags: to no place, to a register, or to data memory.
+pub enum Transfer {
+    Dropped,
+    ToRegister(u8, u8),
+    ToMemory(u16, u8),
+}
+
+// What an instruction is to do.
+pub enum Deed {
+    Nothing,
+    // no flags affected
+    Move(Transfer),
+    // a byte to the register at an address, and then the flags
+    Store(u8, Outcome),
+    // a word to the pair at an address, and then the flags
+    StoreWord(u8, WordOutcome),
+    // the flags alone
+    Test(Flags),
+    // a transfer, and then one more to a register and to a pair
+    Block(Transfer, u8, u8),
+    Push(u8),
+    // to the register at an address, the byte that is popped
+    Pop(u8, u8),
+    Call(u16),
+    Return(u16),
+    // FLAGS and the program counter, as popped
+    ReturnFromInterrupt(u8, u16),
+    // whether the jump is taken, and where to
+    Jump(bool, u16),
+    // to the register at an address, its byte less one; and where to, unless that is zero
+    Loop(u8, u8, u16),
+    // bit 7 of IMR
+    Interrupts(bool),
+}

@@ -1,0 +1,124 @@
+-- What is written when a deed is done, and in which order (01 "Instructions"). Assumes nothing.
+use mathlib.Core.Bool.{Bool, true, not}
+use Prim.Native.Nat.{ℕ, _+_, _%_}
+use lib.Dec.{eqb}
+use Rattle.word.specs.Choose.{pick}
+use Rattle.word.specs.Fields.{highByte, lowByte}
+use Rattle.word.specs.Words.{plus}
+use Rattle.alu.specs.FlagByte.{laid}
+use Rattle.alu.specs.declared.Flags.{Flags}
+use Rattle.alu.specs.declared.Outcome.{Outcome}
+use Rattle.alu.specs.declared.WordOutcome.{WordOutcome}
+use Rattle.machine.specs.State.{held, placed, withPc}
+use Rattle.machine.specs.Ports.{bitsIf}
+use Rattle.machine.specs.Registers.{readReg, writeReg}
+use Rattle.machine.specs.Addresses.{readPair, writePair}
+use Rattle.machine.specs.Stack.{Stacked, isInside, pushed, raised}
+use Rattle.machine.specs.declared.Machine.{Machine}
+use Rattle.machine.specs.declared.Core.{Core}
+use Rattle.machine.specs.declared.stack.Pushed.{Pushed}
+use Rattle.machine.specs.declared.Pins.{Pins}
+use Rattle.machine.specs.declared.Bytes.the-variants.{One, Two}
+use Rattle.machine.specs.declared.Stores.the-variants.{Nothing, At}
+use Rattle.deeds.specs.Modes.{flagsOf}
+use Rattle.deeds.specs.declared.Transfer.{Transfer}
+use Rattle.deeds.specs.declared.Transfer.the-variants.{Dropped, ToRegister, ToMemory}
+use Rattle.deeds.specs.declared.Deed.{Deed}
+use Rattle.deeds.specs.declared.Deed.the-variants as to
+
+-- the affected flags, on the FLAGS byte that is in place by then
+unfoldable pub flagged : Machine → Flags → Machine
+flagged m e = placed m 0xFC (laid (flagsOf m) e)
+
+-- "A destination is stored first, then the affected flags, even when it is FLAGS (HOUSE)."
+unfoldable pub storedAt : Machine → ℕ → Outcome → Machine
+storedAt m dst o = flagged (writeReg m dst (o .value)) (o .flags)
+
+unfoldable pub wordStoredAt : Machine → ℕ → WordOutcome → Machine
+wordStoredAt m dst o = flagged (writePair m dst (o .value)) (o .flags)
+
+-- a machine, and nothing for data memory
+abbrev pub still : Machine → Stacked
+still m = record { machine = m; stores = Nothing }
+
+abbrev pub stillCore : Core → Pushed
+stillCore k = record { k = k; stores = Nothing }
+
+-- the machine in it as f makes it
+abbrev pub then : (Machine → Machine) → Stacked → Stacked
+then f s = record { machine = f (s .machine); stores = s .stores }
+
+unfoldable pub transferred : Machine → Transfer → Stacked
+transferred m Dropped = still m
+transferred m (ToRegister a v) = still (writeReg m a v)
+transferred m (ToMemory a v) = record { machine = m; stores = At a (One v) }
+
+-- "add one to what r, then the pair, reads as by then, modulo 256 and 65,536 (HOUSE)"
+unfoldable pub countedUp : Pins → Machine → ℕ → Machine
+countedUp p m r = writeReg m r ((readReg p m r + 1) % 256)
+
+unfoldable pub pairCountedUp : Pins → Machine → ℕ → Machine
+pairCountedUp p m rr = writePair m rr (plus (readPair p m rr) 1)
+
+-- "LDCI and LDEI store, then add one" to both
+unfoldable pub blockMoved : Pins → Machine → Transfer → ℕ → ℕ → Stacked
+blockMoved p m t r rr = then (λ n. pairCountedUp p (countedUp p n r) rr) (transferred m t)
+
+-- "RET, IRET and POP read, write SP, then load the destination."
+unfoldable pub popped : Machine → ℕ → ℕ → Machine
+popped m dst v = writeReg (raised m 1) dst v
+
+unfoldable pub returned : Machine → ℕ → Machine
+returned m to = withPc (raised m 2) to
+
+-- IMR (7) <-- 1 or 0: EI, DI, IRET, a grant. Its other bits stay.
+unfoldable pub interruptsTo : Machine → Bool → Machine
+interruptsTo m on = placed m 0xFB (held m 0xFB % 128 + bitsIf on 0x80)
+
+unfoldable pub interruptReturned : Machine → ℕ → ℕ → Machine
+interruptReturned m flags to = interruptsTo (withPc (placed (raised m 3) 0xFC flags) to) true
+
+-- CALL pushes the address of the next instruction, its high byte lower
+unfoldable pub called : Machine → ℕ → Stacked
+called m to = then (λ n. withPc n to) (pushed m (Two (highByte (m .pc)) (lowByte (m .pc))))
+
+unfoldable pub jumped : Machine → Bool → ℕ → Machine
+jumped m taken to = pick taken (withPc m to) m
+
+-- DJNZ: its test goes "by the result, not by a reading back"
+unfoldable pub looped : Machine → ℕ → ℕ → ℕ → Machine
+looped m r v to = jumped (writeReg m r v) (not (eqb v 0)) to
+
+-- a deed done
+unfoldable pub doneOf : Pins → Machine → Deed → Stacked
+doneOf p m to.Nothing = still m
+doneOf p m (to.Move t) = transferred m t
+doneOf p m (to.Store dst o) = still (storedAt m dst o)
+doneOf p m (to.StoreWord dst o) = still (wordStoredAt m dst o)
+doneOf p m (to.Test e) = still (flagged m e)
+doneOf p m (to.Block t r rr) = blockMoved p m t r rr
+doneOf p m (to.Push v) = pushed m (One v)
+doneOf p m (to.Pop dst v) = still (popped m dst v)
+doneOf p m (to.Call a) = called m a
+doneOf p m (to.Return a) = still (returned m a)
+doneOf p m (to.ReturnFromInterrupt flags a) = still (interruptReturned m flags a)
+doneOf p m (to.Jump taken a) = still (jumped m taken a)
+doneOf p m (to.Loop r v a) = still (looped m r v a)
+doneOf p m (to.Interrupts on) = still (interruptsTo m on)
+
+-- which of two figures in the map it costs: the first where the jump is taken, or the stack inside before anything is written
+unfoldable pub firstOf : Machine → Deed → Bool
+firstOf m to.Nothing = true
+firstOf m (to.Move t) = true
+firstOf m (to.Store dst o) = true
+firstOf m (to.StoreWord dst o) = true
+firstOf m (to.Test e) = true
+firstOf m (to.Block t r rr) = true
+firstOf m (to.Push v) = isInside m
+firstOf m (to.Pop dst v) = true
+firstOf m (to.Call a) = true
+firstOf m (to.Return a) = true
+firstOf m (to.ReturnFromInterrupt flags a) = true
+firstOf m (to.Jump taken a) = taken
+firstOf m (to.Loop r v a) = not (eqb v 0)
+firstOf m (to.Interrupts on) = true

@@ -1,0 +1,68 @@
+-- One instruction, from the program counter on (01 "Instructions"). Assumes nothing.
+use mathlib.Core.List.{List}
+use Prim.Native.Nat.{ℕ}
+use Rattle.word.specs.Words.{plus}
+use Rattle.opcodes.specs.Map.{entryOf}
+use Rattle.opcodes.specs.Instruction.{lengthOf, opcodeUndefined}
+use Rattle.opcodes.specs.Cycles.{cyclesOf}
+use Rattle.opcodes.specs.declared.Entry.{Entry}
+use Rattle.opcodes.specs.declared.Entry.the-variants.{Blank, Of}
+use Rattle.opcodes.specs.declared.Kind.{Kind}
+use Rattle.machine.specs.State.{whole, withPc}
+use Rattle.machine.specs.Memory.{programByte}
+use Rattle.machine.specs.Stack.{Stacked}
+use Rattle.machine.specs.declared.Machine.{Machine}
+use Rattle.machine.specs.declared.Core.{Core}
+use Rattle.machine.specs.declared.Pins.{Pins}
+use Rattle.machine.specs.declared.Stores.{Stores}
+use Rattle.machine.specs.declared.Stores.the-variants.{Nothing}
+use Rattle.deeds.specs.Pages.{deedOf}
+use Rattle.deeds.specs.declared.Code.{Code}
+use Rattle.deeds.specs.declared.Deed.{Deed}
+use Rattle.execute.specs.Doing.{doneOf, firstOf}
+use Rattle.execute.specs.declared.Executed.{Executed}
+
+-- what an instruction comes to: 0 or a refusal's number, its cycles, what is to be stored in data memory (`storedIn` of the room `machine`
+-- says what that makes of it), the machine
+pub record Execution : Type 0 where
+  pub refusal : ℕ
+  pub cycles : ℕ
+  pub stores : Stores
+  pub machine : Machine
+
+abbrev pub executionOf : List ℕ → Executed → Execution
+executionOf file x = record { refusal = x .refusal; cycles = x .cycles; stores = x .stores; machine = whole file (x .k) }
+
+-- the bytes at the program counter, "modulo 65,536 in every fetch"
+unfoldable pub codeAt : List ℕ → ℕ → Code
+codeAt image pc = record { op = programByte image pc; first = programByte image (plus pc 1); second = programByte image (plus pc 2) }
+
+-- "opcode undefined": 5, "nothing changed"
+abbrev pub refusedOf : Machine → Execution
+refusedOf m = record { refusal = opcodeUndefined; cycles = 0; stores = Nothing; machine = m }
+
+abbrev pub refused : Core → Executed
+refused k = record { refusal = opcodeUndefined; cycles = 0; stores = Nothing; k = k }
+
+-- the machine at the next instruction
+abbrev pub nextOf : Machine → Code → Machine
+nextOf m i = withPc m (plus (m .pc) (lengthOf (i .op)))
+
+-- a deed of an instruction: its cycles by the map, and what it does
+abbrev pub costing : ℕ → Pins → Machine → Deed → Execution
+costing op p m d =
+    record { refusal = 0; cycles = cyclesOf op (firstOf m d); stores = doneOf p m d .stores; machine = doneOf p m d .machine }
+
+-- an instruction of this kind
+unfoldable pub performOf : Pins → List ℕ → List ℕ → Machine → Kind → Code → Execution
+performOf p image mem m k i = costing (i .op) p (nextOf m i) (deedOf p image mem (nextOf m i) k i)
+
+unfoldable pub executeAs : Pins → List ℕ → List ℕ → Machine → Entry → Code → Execution
+executeAs p image mem m Blank i = refusedOf m
+executeAs p image mem m (Of k) i = performOf p image mem m k i
+
+-- the instruction at the program counter
+unfoldable pub executeOf : Pins → List ℕ → List ℕ → Machine → Execution
+executeOf p image mem m =
+    let i = codeAt image (m .pc) in
+    executeAs p image mem m (entryOf (i .op)) i
