@@ -281,7 +281,15 @@ fn djnz(regs: &[u8; 256], k: Core, pins: Pins, i: Code) -> Deed
 }
 
 // What an instruction of this kind is to do.
-pub fn deed(regs: &[u8; 256], k: Core, pins: Pins, image: &[u8], mem: &[u8], kind: Kind, i: Code) -> Deed
+pub fn deed(
+    regs: &[u8; 256],
+    k: Core,
+    pins: Pins,
+    image: &[u8],
+    mem: &[u8],
+    kind: Kind,
+    i: Code,
+) -> Deed
     ensures { λ r. ⌜ r ≡ deedOf pins (now (image .entry)) (now (mem .entry)) (whole (now (regs .entry)) k) kind i ⌝ }
 {
     match kind {

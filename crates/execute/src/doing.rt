@@ -10,7 +10,9 @@ use machine::Pins;
 use machine::Stores;
 use machine::stack::Pushed;
 ghost use mathlib.Core.Path.{_≡_};
+ghost use Prim.Native.Nat.{_≤_};
 ghost use Rattle.machine.specs.State.{whole};
+ghost use Rattle.machine.specs.Ports.{bitsIf};
 ghost use Rattle.machine.specs.Stack.{stackedOf};
 ghost use Rattle.execute.specs.Doing.{flagged, storedAt, wordStoredAt, stillCore, transferred, countedUp, pairCountedUp, blockMoved, popped, returned, interruptsTo, interruptReturned, called, jumped, looped, doneOf, firstOf};
 
@@ -111,12 +113,19 @@ fn ret(regs: &mut [u8; 256], k: Core, to: u16) -> Core
     machine::at_pc(raised, to)
 }
 
+// Bit 7, set or clear.
+fn top_bit(on: bool) -> u8
+    ensures { λ r. ⌜ (r ≡ bitsIf on 0x80) × (r ≤ 128) ⌝ }
+{
+    if on { 0x80 } else { 0 }
+}
+
 // Bit 7 of IMR.
 pub fn interrupts(regs: &mut [u8; 256], k: Core, on: bool) -> Core
     ensures { λ r. ⌜ whole (now (regs .exit)) r ≡ interruptsTo (whole (now (regs .entry)) k) on ⌝ }
 {
     let imr = machine::registers::held(regs, 0xFB);
-    let bit = if on { 0x80 } else { 0 };
+    let bit = top_bit(on);
     machine::registers::place(regs, 0xFB, imr % 128 + bit);
     k
 }

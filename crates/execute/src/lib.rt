@@ -44,7 +44,15 @@ pub fn refuse(k: Core) -> Executed
 }
 
 // An instruction of this kind, whose bytes were fetched at the program counter.
-pub fn perform(regs: &mut [u8; 256], k: Core, pins: Pins, image: &[u8], mem: &[u8], kind: Kind, i: Code) -> Executed
+pub fn perform(
+    regs: &mut [u8; 256],
+    k: Core,
+    pins: Pins,
+    image: &[u8],
+    mem: &[u8],
+    kind: Kind,
+    i: Code,
+) -> Executed
     ensures { λ r. ⌜ executionOf (now (regs .exit)) r ≡ performOf pins (now (image .entry)) (now (mem .entry)) (whole (now (regs .entry)) k) kind i ⌝ }
 {
     let length = opcodes::instruction::length_of(i.op);

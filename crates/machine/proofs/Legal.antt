@@ -18,7 +18,7 @@ use Rattle.timers.specs.Clock.{cycles, written, LegalSetting, LegalMoving}
 use Rattle.timers.specs.declared.Timer.{Timer}
 use Rattle.timers.specs.declared.Moving.{Moving}
 use Rattle.timers.proofs.Legal.{setting-legal, written-legal, cycles-legal}
-use Rattle.machine.specs.State.{heldIn, placedIn, held, placed}
+use Rattle.machine.specs.State.{heldIn, placedIn, held, placed, withPc}
 use Rattle.machine.specs.Ports.{masked, port0Lines, port1Lines, port2Lines, port3Lines, linesOf, portStores, portReads, pinsOf, ofPort}
 use Rattle.machine.specs.Clock.{controlWith, controlOf, movingOf, enabling, countsAt, movedTo, writeTmr, spanOf, shown}
 use Rattle.machine.specs.Registers.{isHole, isWriteOnly, portLines, readPort, writePort, readReg, writeReg}
@@ -98,6 +98,11 @@ counts-legal x l k =
       kind = l .kind;
       cost = l .cost;
     }
+
+pub pc-legal : {m : Machine} (pc : ℕ) → Legal m → pc < 65536 → Legal (withPc m pc)
+unfolding withPc movingOf
+pc-legal pc l h =
+    record { file = l .file; pc-word = h; moving = l .moving; last3-byte = l .last3-byte; kind = l .kind; cost = l .cost }
 
 -- ---- ports
 -- the pins given with a call are bytes

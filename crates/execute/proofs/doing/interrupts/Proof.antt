@@ -1,0 +1,25 @@
+use borrow.Author.Needs.{needs}
+use Rattle.execute.proofs.doing.interrupts.Statement.{statement}
+use Rattle.execute.proofs.doing.interrupts.Tie as tie
+use Rattle.execute.specs.Doing.{interruptsTo}
+use Rattle.machine.specs.State.{placed}
+
+held-requires : tie.Need-held-requires
+held-requires c κs = search needs
+
+top-bit-requires : tie.Need-top-bit-requires
+top-bit-requires c κs = search needs
+
+add-place : tie.Need-add-place
+add-place c = search needs
+
+place-requires : tie.Need-place-requires
+place-requires c κs = search needs
+
+returns : tie.Need-returns
+unfolding interruptsTo placed
+returns c = rw (c .place .ensures, c .before .before .top-bit .ensures .0, c .before .before .before .held .ensures)
+
+pub interrupts-spec : {M : Type 1} → statement M
+interrupts-spec =
+    tie.close (tie.spec held-requires top-bit-requires add-place place-requires returns)
