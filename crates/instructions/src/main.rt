@@ -1,0 +1,191 @@
+// The core's answers to questions about single instructions. What it writes has to be what the independent program
+// tests/reference/instructed.c writes, which shares nothing with the core but the questions.
+use libc::STDOUT_FILENO;
+use machine::Machine;
+use machine::Pins;
+ghost use Prim.Native.Nat.{_≤_};
+ghost use lib.ListN.{length};
+
+fn mixed(h: u32, x: u32) -> u32 {
+    ((h as u64 * 31 + x as u64) % 4294967291) as u32
+}
+
+fn with_byte(h: u32, v: u8) -> u32 {
+    mixed(h, v as u32)
+}
+
+fn with_bytes(h: u32, s: &[u8]) -> u32 {
+    let mut sum = h;
+    for k in 0..s.len() {
+        sum = with_byte(sum, s[k]);
+    }
+    sum
+}
+
+// The j-th number drawn for question i.
+fn draw(i: u32, j: u32) -> u32 {
+    let a = (i as u64 * 512 + j as u64 + 1) * 48271 % 2147483647;
+    (a * a % 2147483647) as u32
+}
+
+fn byte(i: u32, j: u32) -> u8 {
+    (draw(i, j) % 256) as u8
+}
+
+// An operand byte: often Ex, or the address of a port or a control register.
+fn operand(i: u32, j: u32) -> u8
+    requires { ⌜ j ≤ 400 ⌝ }
+{
+    let v = byte(i, j);
+    match draw(i, j + 1) % 4 {
+        0 => 0xE0 + v % 16,
+        1 => 0xF0 + v % 16,
+        2 => v % 8,
+        _ => v,
+    }
+}
+
+// Byte k of a saved machine from a drawn byte, such that the machine is legal.
+fn fitted(k: u32, v: u8) -> u8 {
+    match k {
+        0x80..=0xF0 => 0,
+        0xF1 => v & 0xFA,
+        0xFA => v % 64,
+        0xFD => v / 16 * 16,
+        258 => v % 4,
+        259 => 1 + v % 64,
+        261 => 1 + v % 64,
+        264 => v % 2,
+        265 => 1 + v % 2 * 10,
+        266 => 6 + v % 58,
+        267 => 0,
+        _ => v,
+    }
+}
+
+// Where bytes are popped from an outside stack: near the start of data memory or the end of what is lent, or anywhere.
+fn stack_pointer(i: u32) -> u16 {
+    let near = draw(i, 300) % 8;
+    match draw(i, 301) % 6 {
+        0 => (2044 + near) as u16,
+        1 => (4092 + near) as u16,
+        2 => (4996 + near) as u16,
+        3 => (65532 + near % 4) as u16,
+        4 => near as u16,
+        _ => (draw(i, 302) % 65536) as u16,
+    }
+}
+
+// A legal saved machine.
+fn draw_saved(s: &mut [u8], i: u32)
+    requires { ⌜ 268 ≤ length (now s) ⌝ }
+{
+    for k in 0..268u32 {
+        s[k as usize] = fitted(k, byte(i, k));
+    }
+}
+
+// The machine drawn for question i, at this program counter.
+fn drawn(i: u32, pc: u16) -> Machine {
+    let mut s = [0u8; 268];
+    draw_saved(&mut s, i);
+    let sp = stack_pointer(i);
+    s[0xFE] = word::high_byte(sp);
+    s[0xFF] = word::low_byte(sp);
+    s[256] = word::high_byte(pc);
+    s[257] = word::low_byte(pc);
+    let l = saved::load(&s);
+    l.machine
+}
+
+fn pins(i: u32) -> Pins {
+    Pins {
+        port0: byte(i, 303),
+        port1: byte(i, 304),
+        port2: byte(i, 305),
+        port3: byte(i, 306),
+    }
+}
+
+fn draw_memory(mem: &mut [u8], i: u32) {
+    for k in 0..mem.len() {
+        mem[k] = ((k % 251 + i as usize % 251) % 251) as u8;
+    }
+}
+
+// A byte of the program, where there is a place for it.
+fn set_byte(image: &mut [u8], a: u16, v: u8) {
+    let at = a as usize;
+    if at < image.len() {
+        image[at] = v;
+    }
+}
+
+// Executed at this place of the program.
+fn executed(i: u32, image: &[u8], pc: u16) -> u32 {
+    let m = drawn(i, pc);
+    let kind = m.kind;
+    let mut regs = m.regs;
+    let k = machine::core_of(m);
+    let mut mem = [0u8; 5000];
+    draw_memory(&mut mem, i);
+    let x = execute::execute(&mut regs, k, pins(i), image, &mem);
+    let stores = x.stores;
+    let after = x.k;
+    let mut s = [0u8; 268];
+    saved::save(&mut s, machine::machine_of(regs, after));
+    machine::memory::store(kind, &mut mem, stores);
+    let h = mixed(mixed(0, x.refusal as u32), x.cycles as u32);
+    with_bytes(with_bytes(h, &s), &mem)
+}
+
+// Opcode i % 256 with drawn operands, in a program of 3,000 bytes, at its end too and past it.
+fn executes(i: u32) -> u32 {
+    let mut image = [0u8; 3000];
+    draw_memory(&mut image, i / 2);
+    let pc = (draw(i, 311) % 3004) as u16;
+    set_byte(&mut image, pc, (i % 256) as u8);
+    set_byte(&mut image, word::plus(pc, 1), operand(i, 307));
+    set_byte(&mut image, word::plus(pc, 2), operand(i, 309));
+    executed(i, &image, pc)
+}
+
+// The same at the end of a program of 65,536 bytes.
+fn wraps(i: u32) -> u32 {
+    let mut image = [0u8; 65536];
+    draw_memory(&mut image, i / 2);
+    let pc = (65535 - draw(i, 311) % 4) as u16;
+    set_byte(&mut image, pc, (i % 256) as u8);
+    set_byte(&mut image, word::plus(pc, 1), operand(i, 307));
+    set_byte(&mut image, word::plus(pc, 2), operand(i, 309));
+    executed(i, &image, pc)
+}
+
+fn asked(question: u8, i: u32) -> u32 {
+    match question {
+        0 => executes(i),
+        _ => wraps(i),
+    }
+}
+
+// The checksum of a question's first n answers.
+fn checksum(question: u8, n: u32) -> u32 {
+    let mut h = 0;
+    for i in 0..n {
+        h = mixed(h, asked(question, i));
+    }
+    h
+}
+
+// A line: the name and the checksum of a question.
+fn line(name: &[u8], question: u8, n: u32) {
+    io::write_all(STDOUT_FILENO, name);
+    io::write_all(STDOUT_FILENO, b" ");
+    io::print_hex(STDOUT_FILENO, checksum(question, n) as u64, 8);
+    io::write_all(STDOUT_FILENO, b"\n");
+}
+
+fn main() {
+    line(b"executes", 0, 65536);
+    line(b"wraps", 1, 1024);
+}
