@@ -1,8 +1,9 @@
 -- What each page of chapter 5 has an instruction do, with everything read that it needs. What is written then, and in which order, is the
 -- room `execute`'s. The machine is the one before, its program counter at the next instruction. Assumes nothing.
-use mathlib.Core.Bool.{Bool, true, false}
+use mathlib.Core.Bool.{Bool, true, false, not}
 use mathlib.Core.List.{List}
 use Prim.Native.Nat.{ℕ, _+_, _%_}
+use lib.Dec.{eqb}
 use Rattle.word.specs.Fields.{upper, lower, wordOf}
 use Rattle.word.specs.Words.{dispOf, movedBy}
 use Rattle.alu.specs.FlagByte.{rcfOf, scfOf, ccfOf}
@@ -10,6 +11,7 @@ use Rattle.alu.specs.Decimal.{daOf}
 use Rattle.alu.specs.Conditions.{holdsOf}
 use Rattle.alu.specs.declared.Adjusted.{Adjusted}
 use Rattle.alu.specs.declared.Adjusted.the-variants.{By, NoRow}
+use Rattle.opcodes.specs.Columns.{costOf}
 use Rattle.opcodes.specs.declared.Kind.{Kind}
 use Rattle.opcodes.specs.declared.Kind.the-variants.{Binary, Test, Unary, Paired, Call, Ccf, Clr, Da, Di, Djnz, Ei, Iret, Jp, Jr, Ld, Ldc, Ldci, Lde, Ldei, Nop, Pop, Push, Rcf, Ret, Scf, Srp}
 use Rattle.opcodes.specs.declared.Binary as binary
@@ -25,7 +27,7 @@ use Rattle.opcodes.specs.declared.Target.the-variants.{Direct, Pair}
 use Rattle.machine.specs.Registers.{readReg}
 use Rattle.machine.specs.Addresses.{workingAt, workingIndirectAt, readPair}
 use Rattle.machine.specs.Memory.{programByte, dataByte}
-use Rattle.machine.specs.Stack.{stackByte}
+use Rattle.machine.specs.Stack.{stackByte, isInside}
 use Rattle.machine.specs.declared.Machine.{Machine}
 use Rattle.machine.specs.declared.Pins.{Pins}
 use Rattle.deeds.specs.Modes.{flagsOf, upperAt, lowerAt, oneAt, operandsOf, targetOf}
@@ -34,6 +36,7 @@ use Rattle.deeds.specs.declared.Code.{Code}
 use Rattle.deeds.specs.declared.Transfer.{Transfer}
 use Rattle.deeds.specs.declared.Transfer.the-variants.{Dropped, ToRegister, ToMemory}
 use Rattle.deeds.specs.declared.Deed.{Deed}
+use Rattle.deeds.specs.declared.Planned.{Planned}
 use Rattle.deeds.specs.declared.Deed.the-variants as to
 
 -- ADC, ADD, AND, OR, SBC, SUB, XOR: the result goes to the destination
@@ -192,3 +195,27 @@ deedOf p image mem m Rcf i = rcfDeed m
 deedOf p image mem m Ret i = retDeed p mem m
 deedOf p image mem m Scf i = scfDeed m
 deedOf p image mem m Srp i = load 0xFD (i .first)
+
+-- which of two figures in the map a deed costs: the first where the jump is taken, or the stack inside before anything is written
+unfoldable pub firstOf : Machine → Deed → Bool
+firstOf m to.Nothing = true
+firstOf m (to.Move t) = true
+firstOf m (to.Store dst o) = true
+firstOf m (to.StoreWord dst o) = true
+firstOf m (to.Test e) = true
+firstOf m (to.Block t r rr) = true
+firstOf m (to.Push v) = isInside m
+firstOf m (to.Pop dst v) = true
+firstOf m (to.Call a) = true
+firstOf m (to.Return a) = true
+firstOf m (to.ReturnFromInterrupt flags a) = true
+firstOf m (to.Jump taken a) = taken
+firstOf m (to.Loop r v a) = not (eqb v 0)
+firstOf m (to.Interrupts on) = true
+
+-- for the code: a deed with the cycles of its kind
+abbrev pub planOf : Deed → ℕ → Planned
+planOf d cycles = record { deed = d; cycles = cycles }
+
+abbrev pub plannedOf : Machine → Kind → Deed → Planned
+plannedOf m k d = planOf d (costOf k (firstOf m d))

@@ -1,5 +1,6 @@
 // Operands: their addresses and values, by the address mode.
 use crate::Code;
+use crate::Costed;
 use crate::Operands;
 use machine::Core;
 use machine::Pins;
@@ -8,7 +9,7 @@ use opcodes::Target;
 use opcodes::Two;
 ghost use mathlib.Core.Path.{_≡_};
 ghost use Rattle.machine.specs.State.{whole};
-ghost use Rattle.deeds.specs.Modes.{flagsOf, upperAt, lowerAt, oneAt, fromRegister, operandsOf, targetOf};
+ghost use Rattle.deeds.specs.Modes.{flagsOf, upperAt, lowerAt, oneAt, fromRegister, operandsOf, costedAt, costedOf, targetOf};
 
 // FLAGS, as they stand.
 pub fn flags(regs: &[u8; 256], k: Core) -> u8
@@ -50,72 +51,91 @@ fn from_register(regs: &[u8; 256], k: Core, pins: Pins, dst: u8, a: u8) -> Opera
     Operands { dst, src }
 }
 
-// Two operands: a destination's address and a source's value.
-pub fn two(regs: &[u8; 256], k: Core, pins: Pins, w: Two, i: Code) -> Operands
-    ensures { λ r. ⌜ r ≡ operandsOf pins (whole (now (regs .entry)) k) w i ⌝ }
+fn costed(operands: Operands, cycles: u8) -> Costed
+    ensures { λ r. ⌜ r ≡ costedAt operands cycles ⌝ }
+{
+    Costed { operands, cycles }
+}
+
+// Two operands: a destination's address and a source's value. An arm knows the mode, so it knows the cycles too.
+pub fn two(regs: &[u8; 256], k: Core, pins: Pins, w: Two, i: Code) -> Costed
+    ensures { λ r. ⌜ r ≡ costedOf w (operandsOf pins (whole (now (regs .entry)) k) w i) ⌝ }
 {
     match w {
         Two::WorkWork => {
             let dst = upper(regs, k, i.first);
             let a = lower(regs, k, i.first);
-            from_register(regs, k, pins, dst, a)
+            let o = from_register(regs, k, pins, dst, a);
+            costed(o, 6)
         }
         Two::WorkInd => {
             let dst = upper(regs, k, i.first);
             let a = machine::addresses::working_indirect(regs, k, pins, i.first % 16);
-            from_register(regs, k, pins, dst, a)
+            let o = from_register(regs, k, pins, dst, a);
+            costed(o, 6)
         }
         Two::RegReg => {
             let a = machine::addresses::register(regs, k, i.first);
             let dst = machine::addresses::register(regs, k, i.second);
-            from_register(regs, k, pins, dst, a)
+            let o = from_register(regs, k, pins, dst, a);
+            costed(o, 10)
         }
         Two::RegInd => {
             let a = machine::addresses::indirect(regs, k, pins, i.first);
             let dst = machine::addresses::register(regs, k, i.second);
-            from_register(regs, k, pins, dst, a)
+            let o = from_register(regs, k, pins, dst, a);
+            costed(o, 10)
         }
         Two::RegImm => {
             let dst = machine::addresses::register(regs, k, i.first);
-            Operands { dst, src: i.second }
+            let o = Operands { dst, src: i.second };
+            costed(o, 10)
         }
         Two::IndImm => {
             let dst = machine::addresses::indirect(regs, k, pins, i.first);
-            Operands { dst, src: i.second }
+            let o = Operands { dst, src: i.second };
+            costed(o, 10)
         }
         Two::WorkImm => {
             let dst = upper(regs, k, i.op);
-            Operands { dst, src: i.first }
+            let o = Operands { dst, src: i.first };
+            costed(o, 6)
         }
         Two::WorkReg => {
             let dst = upper(regs, k, i.op);
             let a = machine::addresses::register(regs, k, i.first);
-            from_register(regs, k, pins, dst, a)
+            let o = from_register(regs, k, pins, dst, a);
+            costed(o, 6)
         }
         Two::RegWork => {
             let dst = machine::addresses::register(regs, k, i.first);
             let a = upper(regs, k, i.op);
-            from_register(regs, k, pins, dst, a)
+            let o = from_register(regs, k, pins, dst, a);
+            costed(o, 6)
         }
         Two::WorkIndexed => {
             let dst = upper(regs, k, i.first);
             let a = machine::addresses::indexed(regs, k, pins, i.second, i.first % 16);
-            from_register(regs, k, pins, dst, a)
+            let o = from_register(regs, k, pins, dst, a);
+            costed(o, 10)
         }
         Two::IndexedWork => {
             let dst = machine::addresses::indexed(regs, k, pins, i.second, i.first % 16);
             let a = upper(regs, k, i.first);
-            from_register(regs, k, pins, dst, a)
+            let o = from_register(regs, k, pins, dst, a);
+            costed(o, 10)
         }
         Two::IndWork => {
             let dst = machine::addresses::working_indirect(regs, k, pins, i.first / 16);
             let a = lower(regs, k, i.first);
-            from_register(regs, k, pins, dst, a)
+            let o = from_register(regs, k, pins, dst, a);
+            costed(o, 6)
         }
         Two::IndReg => {
             let a = machine::addresses::register(regs, k, i.first);
             let dst = machine::addresses::indirect(regs, k, pins, i.second);
-            from_register(regs, k, pins, dst, a)
+            let o = from_register(regs, k, pins, dst, a);
+            costed(o, 10)
         }
     }
 }

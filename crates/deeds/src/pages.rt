@@ -1,6 +1,7 @@
 // What each page of chapter 5 has an instruction do. `regs, k` is the machine before, its program counter at the next instruction.
 use crate::Code;
 use crate::Deed;
+use crate::Planned;
 use crate::Transfer;
 use alu::Adjusted;
 use machine::Core;
@@ -17,48 +18,75 @@ use opcodes::Way;
 ghost use mathlib.Core.Bool.{true, false};
 ghost use mathlib.Core.Path.{_≡_};
 ghost use Rattle.machine.specs.State.{whole};
-ghost use Rattle.deeds.specs.Pages.{binaryDeed, testDeed, unaryDeed, pairedDeed, adjustDeed, daDeed, ldDeed, programMove, dataMove, pointedAt, ldcDeed, ldeDeed, ldciDeed, ldeiDeed, popDeed, pushDeed, retDeed, iretDeed, conditionOf, jpDeed, relative, jrDeed, djnzDeed, load, clrDeed, ccfDeed, rcfDeed, scfDeed, callDeed, deedOf};
+ghost use Rattle.deeds.specs.Pages.{binaryDeed, testDeed, unaryDeed, pairedDeed, adjustDeed, daDeed, ldDeed, programMove, dataMove, pointedAt, ldcDeed, ldeDeed, ldciDeed, ldeiDeed, popDeed, pushDeed, retDeed, iretDeed, conditionOf, jpDeed, relative, jrDeed, djnzDeed, load, clrDeed, ccfDeed, rcfDeed, scfDeed, callDeed, deedOf, planOf, plannedOf};
+ghost use Rattle.word.specs.Choose.{pick};
+ghost use Rattle.opcodes.specs.Columns.{unaryCost, pushCost, jumpCost};
+
+// The cycles stand where the kind is known; `opcodes` proves that they are the map's (`cycles-by-kind`).
+fn plan(deed: Deed, cycles: u8) -> Planned
+    ensures { λ r. ⌜ r ≡ planOf deed cycles ⌝ }
+{
+    Planned { deed, cycles }
+}
 
 // ADC, ADD, AND, OR, SBC, SUB, XOR.
-fn binary(regs: &[u8; 256], k: Core, pins: Pins, b: Binary, w: Two, i: Code) -> Deed
-    ensures { λ r. ⌜ r ≡ binaryDeed pins (whole (now (regs .entry)) k) b w i ⌝ }
+fn binary(regs: &[u8; 256], k: Core, pins: Pins, b: Binary, w: Two, i: Code) -> Planned
+    ensures { λ r. ⌜ r ≡ plannedOf (whole (now (regs .entry)) k) (Kind.Binary b w) (binaryDeed pins (whole (now (regs .entry)) k) b w i) ⌝ }
 {
-    let o = crate::modes::two(regs, k, pins, w, i);
+    let c = crate::modes::two(regs, k, pins, w, i);
+    let o = c.operands;
     let dst = machine::registers::read(regs, k, pins, o.dst);
     let read = crate::modes::flags(regs, k);
     let result = crate::results::binary(b, dst, o.src, read);
-    Deed::Store(o.dst, result)
+    plan(Deed::Store(o.dst, result), c.cycles)
 }
 
 // CP, TCM, TM.
-fn test(regs: &[u8; 256], k: Core, pins: Pins, t: Test, w: Two, i: Code) -> Deed
-    ensures { λ r. ⌜ r ≡ testDeed pins (whole (now (regs .entry)) k) t w i ⌝ }
+fn test(regs: &[u8; 256], k: Core, pins: Pins, t: Test, w: Two, i: Code) -> Planned
+    ensures { λ r. ⌜ r ≡ plannedOf (whole (now (regs .entry)) k) (Kind.Test t w) (testDeed pins (whole (now (regs .entry)) k) t w i) ⌝ }
 {
-    let o = crate::modes::two(regs, k, pins, w, i);
+    let c = crate::modes::two(regs, k, pins, w, i);
+    let o = c.operands;
     let dst = machine::registers::read(regs, k, pins, o.dst);
     let flags = crate::results::test(t, dst, o.src);
-    Deed::Test(flags)
+    plan(Deed::Test(flags), c.cycles)
+}
+
+fn unary_cycles(u: Unary) -> u8
+    ensures { λ r. ⌜ r ≡ unaryCost u ⌝ }
+{
+    match u {
+        Unary::Com => 6,
+        Unary::Dec => 6,
+        Unary::Inc => 6,
+        Unary::Rl => 6,
+        Unary::Rlc => 6,
+        Unary::Rr => 6,
+        Unary::Rrc => 6,
+        Unary::Sra => 6,
+        Unary::Swap => 8,
+    }
 }
 
 // COM, DEC, INC, RL, RLC, RR, RRC, SRA, SWAP.
-fn unary(regs: &[u8; 256], k: Core, pins: Pins, u: Unary, w: One, i: Code) -> Deed
-    ensures { λ r. ⌜ r ≡ unaryDeed pins (whole (now (regs .entry)) k) u w i ⌝ }
+fn unary(regs: &[u8; 256], k: Core, pins: Pins, u: Unary, w: One, i: Code) -> Planned
+    ensures { λ r. ⌜ r ≡ plannedOf (whole (now (regs .entry)) k) (Kind.Unary u w) (unaryDeed pins (whole (now (regs .entry)) k) u w i) ⌝ }
 {
     let a = crate::modes::one(regs, k, pins, w, i);
     let dst = machine::registers::read(regs, k, pins, a);
     let read = crate::modes::flags(regs, k);
     let result = crate::results::unary(u, dst, read);
-    Deed::Store(a, result)
+    plan(Deed::Store(a, result), unary_cycles(u))
 }
 
 // DECW, INCW.
-fn paired(regs: &[u8; 256], k: Core, pins: Pins, p: Paired, w: One, i: Code) -> Deed
-    ensures { λ r. ⌜ r ≡ pairedDeed pins (whole (now (regs .entry)) k) p w i ⌝ }
+fn paired(regs: &[u8; 256], k: Core, pins: Pins, p: Paired, w: One, i: Code) -> Planned
+    ensures { λ r. ⌜ r ≡ plannedOf (whole (now (regs .entry)) k) (Kind.Paired p w) (pairedDeed pins (whole (now (regs .entry)) k) p w i) ⌝ }
 {
     let a = crate::modes::one(regs, k, pins, w, i);
     let dst = machine::addresses::read_pair(regs, k, pins, a);
     let result = crate::results::paired(p, dst);
-    Deed::StoreWord(a, result)
+    plan(Deed::StoreWord(a, result), 10)
 }
 
 // What DA makes of the register at an address.
@@ -71,14 +99,14 @@ fn adjust(a: u8, x: Adjusted) -> Deed
     }
 }
 
-fn da(regs: &[u8; 256], k: Core, pins: Pins, w: One, i: Code) -> Deed
-    ensures { λ r. ⌜ r ≡ daDeed pins (whole (now (regs .entry)) k) w i ⌝ }
+fn da(regs: &[u8; 256], k: Core, pins: Pins, w: One, i: Code) -> Planned
+    ensures { λ r. ⌜ r ≡ plannedOf (whole (now (regs .entry)) k) (Kind.Da w) (daDeed pins (whole (now (regs .entry)) k) w i) ⌝ }
 {
     let a = crate::modes::one(regs, k, pins, w, i);
     let dst = machine::registers::read(regs, k, pins, a);
     let read = crate::modes::flags(regs, k);
     let x = alu::decimal::da(dst, read);
-    adjust(a, x)
+    plan(adjust(a, x), 8)
 }
 
 // A byte to a register, and no flags.
@@ -89,39 +117,40 @@ fn load(a: u8, v: u8) -> Deed
     Deed::Move(t)
 }
 
-fn ld(regs: &[u8; 256], k: Core, pins: Pins, w: Two, i: Code) -> Deed
-    ensures { λ r. ⌜ r ≡ ldDeed pins (whole (now (regs .entry)) k) w i ⌝ }
+fn ld(regs: &[u8; 256], k: Core, pins: Pins, w: Two, i: Code) -> Planned
+    ensures { λ r. ⌜ r ≡ plannedOf (whole (now (regs .entry)) k) (Kind.Ld w) (ldDeed pins (whole (now (regs .entry)) k) w i) ⌝ }
 {
-    let o = crate::modes::two(regs, k, pins, w, i);
-    load(o.dst, o.src)
+    let c = crate::modes::two(regs, k, pins, w, i);
+    let o = c.operands;
+    plan(load(o.dst, o.src), c.cycles)
 }
 
-fn clr(regs: &[u8; 256], k: Core, pins: Pins, w: One, i: Code) -> Deed
-    ensures { λ r. ⌜ r ≡ clrDeed pins (whole (now (regs .entry)) k) w i ⌝ }
+fn clr(regs: &[u8; 256], k: Core, pins: Pins, w: One, i: Code) -> Planned
+    ensures { λ r. ⌜ r ≡ plannedOf (whole (now (regs .entry)) k) (Kind.Clr w) (clrDeed pins (whole (now (regs .entry)) k) w i) ⌝ }
 {
     let a = crate::modes::one(regs, k, pins, w, i);
-    load(a, 0)
+    plan(load(a, 0), 6)
 }
 
-fn ccf(regs: &[u8; 256], k: Core) -> Deed
-    ensures { λ r. ⌜ r ≡ ccfDeed (whole (now (regs .entry)) k) ⌝ }
+fn ccf(regs: &[u8; 256], k: Core) -> Planned
+    ensures { λ r. ⌜ r ≡ plannedOf (whole (now (regs .entry)) k) Kind.Ccf (ccfDeed (whole (now (regs .entry)) k)) ⌝ }
 {
     let read = crate::modes::flags(regs, k);
-    load(0xFC, alu::ccf(read))
+    plan(load(0xFC, alu::ccf(read)), 6)
 }
 
-fn rcf(regs: &[u8; 256], k: Core) -> Deed
-    ensures { λ r. ⌜ r ≡ rcfDeed (whole (now (regs .entry)) k) ⌝ }
+fn rcf(regs: &[u8; 256], k: Core) -> Planned
+    ensures { λ r. ⌜ r ≡ plannedOf (whole (now (regs .entry)) k) Kind.Rcf (rcfDeed (whole (now (regs .entry)) k)) ⌝ }
 {
     let read = crate::modes::flags(regs, k);
-    load(0xFC, alu::rcf(read))
+    plan(load(0xFC, alu::rcf(read)), 6)
 }
 
-fn scf(regs: &[u8; 256], k: Core) -> Deed
-    ensures { λ r. ⌜ r ≡ scfDeed (whole (now (regs .entry)) k) ⌝ }
+fn scf(regs: &[u8; 256], k: Core) -> Planned
+    ensures { λ r. ⌜ r ≡ plannedOf (whole (now (regs .entry)) k) Kind.Scf (scfDeed (whole (now (regs .entry)) k)) ⌝ }
 {
     let read = crate::modes::flags(regs, k);
-    load(0xFC, alu::scf(read))
+    plan(load(0xFC, alu::scf(read)), 6)
 }
 
 // Between the register at x and program memory at a.
@@ -161,84 +190,102 @@ fn pointed(regs: &[u8; 256], k: Core, pins: Pins, i: Code) -> u16
     machine::addresses::read_pair(regs, k, pins, rr)
 }
 
-fn ldc(regs: &[u8; 256], k: Core, pins: Pins, image: &[u8], w: Way, i: Code) -> Deed
-    ensures { λ r. ⌜ r ≡ ldcDeed pins (now (image .entry)) (whole (now (regs .entry)) k) w i ⌝ }
+fn ldc(regs: &[u8; 256], k: Core, pins: Pins, image: &[u8], w: Way, i: Code) -> Planned
+    ensures { λ r. ⌜ r ≡ plannedOf (whole (now (regs .entry)) k) (Kind.Ldc w) (ldcDeed pins (now (image .entry)) (whole (now (regs .entry)) k) w i) ⌝ }
 {
     let a = pointed(regs, k, pins, i);
     let x = crate::modes::upper(regs, k, i.first);
     let t = program_move(image, w, x, a);
-    Deed::Move(t)
+    plan(Deed::Move(t), 12)
 }
 
-fn lde(regs: &[u8; 256], k: Core, pins: Pins, mem: &[u8], w: Way, i: Code) -> Deed
-    ensures { λ r. ⌜ r ≡ ldeDeed pins (now (mem .entry)) (whole (now (regs .entry)) k) w i ⌝ }
+fn lde(regs: &[u8; 256], k: Core, pins: Pins, mem: &[u8], w: Way, i: Code) -> Planned
+    ensures { λ r. ⌜ r ≡ plannedOf (whole (now (regs .entry)) k) (Kind.Lde w) (ldeDeed pins (now (mem .entry)) (whole (now (regs .entry)) k) w i) ⌝ }
 {
     let a = pointed(regs, k, pins, i);
     let x = crate::modes::upper(regs, k, i.first);
     let t = data_move(regs, k, pins, mem, w, x, a);
-    Deed::Move(t)
+    plan(Deed::Move(t), 12)
 }
 
-fn ldci(regs: &[u8; 256], k: Core, pins: Pins, image: &[u8], w: Way, i: Code) -> Deed
-    ensures { λ r. ⌜ r ≡ ldciDeed pins (now (image .entry)) (whole (now (regs .entry)) k) w i ⌝ }
+fn ldci(regs: &[u8; 256], k: Core, pins: Pins, image: &[u8], w: Way, i: Code) -> Planned
+    ensures { λ r. ⌜ r ≡ plannedOf (whole (now (regs .entry)) k) (Kind.Ldci w) (ldciDeed pins (now (image .entry)) (whole (now (regs .entry)) k) w i) ⌝ }
 {
     let a = pointed(regs, k, pins, i);
     let x = machine::addresses::working_indirect(regs, k, pins, i.first / 16);
     let t = program_move(image, w, x, a);
     let r = crate::modes::upper(regs, k, i.first);
     let rr = crate::modes::lower(regs, k, i.first);
-    Deed::Block(t, r, rr)
+    plan(Deed::Block(t, r, rr), 18)
 }
 
-fn ldei(regs: &[u8; 256], k: Core, pins: Pins, mem: &[u8], w: Way, i: Code) -> Deed
-    ensures { λ r. ⌜ r ≡ ldeiDeed pins (now (mem .entry)) (whole (now (regs .entry)) k) w i ⌝ }
+fn ldei(regs: &[u8; 256], k: Core, pins: Pins, mem: &[u8], w: Way, i: Code) -> Planned
+    ensures { λ r. ⌜ r ≡ plannedOf (whole (now (regs .entry)) k) (Kind.Ldei w) (ldeiDeed pins (now (mem .entry)) (whole (now (regs .entry)) k) w i) ⌝ }
 {
     let a = pointed(regs, k, pins, i);
     let x = machine::addresses::working_indirect(regs, k, pins, i.first / 16);
     let t = data_move(regs, k, pins, mem, w, x, a);
     let r = crate::modes::upper(regs, k, i.first);
     let rr = crate::modes::lower(regs, k, i.first);
-    Deed::Block(t, r, rr)
+    plan(Deed::Block(t, r, rr), 18)
 }
 
-fn pop(regs: &[u8; 256], k: Core, pins: Pins, mem: &[u8], w: One, i: Code) -> Deed
-    ensures { λ r. ⌜ r ≡ popDeed pins (now (mem .entry)) (whole (now (regs .entry)) k) w i ⌝ }
+fn pop(regs: &[u8; 256], k: Core, pins: Pins, mem: &[u8], w: One, i: Code) -> Planned
+    ensures { λ r. ⌜ r ≡ plannedOf (whole (now (regs .entry)) k) (Kind.Pop w) (popDeed pins (now (mem .entry)) (whole (now (regs .entry)) k) w i) ⌝ }
 {
     let a = crate::modes::one(regs, k, pins, w, i);
     let v = machine::stack::byte_at(regs, k, pins, mem, 0);
-    Deed::Pop(a, v)
+    plan(Deed::Pop(a, v), 10)
 }
 
-fn push(regs: &[u8; 256], k: Core, pins: Pins, w: One, i: Code) -> Deed
-    ensures { λ r. ⌜ r ≡ pushDeed pins (whole (now (regs .entry)) k) w i ⌝ }
+fn either(first: bool, a: u8, b: u8) -> u8
+    ensures { λ r. ⌜ r ≡ pick first a b ⌝ }
+{
+    if first { a } else { b }
+}
+
+// PUSH, by the kind of stack before anything is written.
+fn push_cycles(w: One, inside: bool) -> u8
+    ensures { λ r. ⌜ r ≡ pushCost w inside ⌝ }
+{
+    match w {
+        One::Work => 10,
+        One::Reg => either(inside, 10, 12),
+        One::Ind => either(inside, 12, 14),
+    }
+}
+
+fn push(regs: &[u8; 256], k: Core, pins: Pins, w: One, i: Code) -> Planned
+    ensures { λ r. ⌜ r ≡ plannedOf (whole (now (regs .entry)) k) (Kind.Push w) (pushDeed pins (whole (now (regs .entry)) k) w i) ⌝ }
 {
     let a = crate::modes::one(regs, k, pins, w, i);
     let v = machine::registers::read(regs, k, pins, a);
-    Deed::Push(v)
+    let inside = machine::stack::is_inside(regs, k);
+    plan(Deed::Push(v), push_cycles(w, inside))
 }
 
-fn call(regs: &[u8; 256], k: Core, pins: Pins, t: Target, i: Code) -> Deed
-    ensures { λ r. ⌜ r ≡ callDeed pins (whole (now (regs .entry)) k) t i ⌝ }
+fn call(regs: &[u8; 256], k: Core, pins: Pins, t: Target, i: Code) -> Planned
+    ensures { λ r. ⌜ r ≡ plannedOf (whole (now (regs .entry)) k) (Kind.Call t) (callDeed pins (whole (now (regs .entry)) k) t i) ⌝ }
 {
     let to = crate::modes::target(regs, k, pins, t, i);
-    Deed::Call(to)
+    plan(Deed::Call(to), 20)
 }
 
-fn ret(regs: &[u8; 256], k: Core, pins: Pins, mem: &[u8]) -> Deed
-    ensures { λ r. ⌜ r ≡ retDeed pins (now (mem .entry)) (whole (now (regs .entry)) k) ⌝ }
+fn ret(regs: &[u8; 256], k: Core, pins: Pins, mem: &[u8]) -> Planned
+    ensures { λ r. ⌜ r ≡ plannedOf (whole (now (regs .entry)) k) Kind.Ret (retDeed pins (now (mem .entry)) (whole (now (regs .entry)) k)) ⌝ }
 {
     let hi = machine::stack::byte_at(regs, k, pins, mem, 0);
     let lo = machine::stack::byte_at(regs, k, pins, mem, 1);
-    Deed::Return(word::word(hi, lo))
+    plan(Deed::Return(word::word(hi, lo)), 14)
 }
 
-fn iret(regs: &[u8; 256], k: Core, pins: Pins, mem: &[u8]) -> Deed
-    ensures { λ r. ⌜ r ≡ iretDeed pins (now (mem .entry)) (whole (now (regs .entry)) k) ⌝ }
+fn iret(regs: &[u8; 256], k: Core, pins: Pins, mem: &[u8]) -> Planned
+    ensures { λ r. ⌜ r ≡ plannedOf (whole (now (regs .entry)) k) Kind.Iret (iretDeed pins (now (mem .entry)) (whole (now (regs .entry)) k)) ⌝ }
 {
     let flags = machine::stack::byte_at(regs, k, pins, mem, 0);
     let hi = machine::stack::byte_at(regs, k, pins, mem, 1);
     let lo = machine::stack::byte_at(regs, k, pins, mem, 2);
-    Deed::ReturnFromInterrupt(flags, word::word(hi, lo))
+    plan(Deed::ReturnFromInterrupt(flags, word::word(hi, lo)), 16)
 }
 
 // Whether the condition in the opcode's upper nibble holds.
@@ -249,38 +296,45 @@ fn condition(regs: &[u8; 256], k: Core, i: Code) -> bool
     alu::conditions::holds(i.op / 16, f)
 }
 
-fn jp(regs: &[u8; 256], k: Core, pins: Pins, t: Target, i: Code) -> Deed
-    ensures { λ r. ⌜ r ≡ jpDeed pins (whole (now (regs .entry)) k) t i ⌝ }
+// DJNZ, JR and JP cc.
+fn jump_cycles(taken: bool) -> u8
+    ensures { λ r. ⌜ r ≡ jumpCost taken ⌝ }
+{
+    either(taken, 12, 10)
+}
+
+fn jp(regs: &[u8; 256], k: Core, pins: Pins, t: Target, i: Code) -> Planned
+    ensures { λ r. ⌜ r ≡ plannedOf (whole (now (regs .entry)) k) (Kind.Jp t) (jpDeed pins (whole (now (regs .entry)) k) t i) ⌝ }
 {
     let to = crate::modes::target(regs, k, pins, t, i);
     match t {
         Target::Direct => {
             let taken = condition(regs, k, i);
-            Deed::Jump(taken, to)
+            plan(Deed::Jump(taken, to), jump_cycles(taken))
         }
-        Target::Pair => Deed::Jump(true, to),
+        Target::Pair => plan(Deed::Jump(true, to), 8),
     }
 }
 
-fn jr(regs: &[u8; 256], k: Core, i: Code) -> Deed
-    ensures { λ r. ⌜ r ≡ jrDeed (whole (now (regs .entry)) k) i ⌝ }
+fn jr(regs: &[u8; 256], k: Core, i: Code) -> Planned
+    ensures { λ r. ⌜ r ≡ plannedOf (whole (now (regs .entry)) k) Kind.Jr (jrDeed (whole (now (regs .entry)) k) i) ⌝ }
 {
     let taken = condition(regs, k, i);
     let to = word::moved(k.pc, i.first);
-    Deed::Jump(taken, to)
+    plan(Deed::Jump(taken, to), jump_cycles(taken))
 }
 
-fn djnz(regs: &[u8; 256], k: Core, pins: Pins, i: Code) -> Deed
-    ensures { λ r. ⌜ r ≡ djnzDeed pins (whole (now (regs .entry)) k) i ⌝ }
+fn djnz(regs: &[u8; 256], k: Core, pins: Pins, i: Code) -> Planned
+    ensures { λ r. ⌜ r ≡ plannedOf (whole (now (regs .entry)) k) Kind.Djnz (djnzDeed pins (whole (now (regs .entry)) k) i) ⌝ }
 {
     let r = crate::modes::upper(regs, k, i.op);
     let v = machine::registers::read(regs, k, pins, r);
     let less = std::num::wrapping_add_u8(v, 255);
     let to = word::moved(k.pc, i.first);
-    Deed::Loop(r, less, to)
+    plan(Deed::Loop(r, less, to), jump_cycles(less != 0))
 }
 
-// What an instruction of this kind is to do.
+// What an instruction of this kind is to do, and its cycles.
 pub fn deed(
     regs: &[u8; 256],
     k: Core,
@@ -289,8 +343,8 @@ pub fn deed(
     mem: &[u8],
     kind: Kind,
     i: Code,
-) -> Deed
-    ensures { λ r. ⌜ r ≡ deedOf pins (now (image .entry)) (now (mem .entry)) (whole (now (regs .entry)) k) kind i ⌝ }
+) -> Planned
+    ensures { λ r. ⌜ r ≡ plannedOf (whole (now (regs .entry)) k) kind (deedOf pins (now (image .entry)) (now (mem .entry)) (whole (now (regs .entry)) k) kind i) ⌝ }
 {
     match kind {
         Kind::Binary(b, w) => binary(regs, k, pins, b, w, i),
@@ -301,9 +355,9 @@ pub fn deed(
         Kind::Ccf => ccf(regs, k),
         Kind::Clr(w) => clr(regs, k, pins, w, i),
         Kind::Da(w) => da(regs, k, pins, w, i),
-        Kind::Di => Deed::Interrupts(false),
+        Kind::Di => plan(Deed::Interrupts(false), 6),
         Kind::Djnz => djnz(regs, k, pins, i),
-        Kind::Ei => Deed::Interrupts(true),
+        Kind::Ei => plan(Deed::Interrupts(true), 6),
         Kind::Iret => iret(regs, k, pins, mem),
         Kind::Jp(t) => jp(regs, k, pins, t, i),
         Kind::Jr => jr(regs, k, i),
@@ -312,12 +366,12 @@ pub fn deed(
         Kind::Ldci(w) => ldci(regs, k, pins, image, w, i),
         Kind::Lde(w) => lde(regs, k, pins, mem, w, i),
         Kind::Ldei(w) => ldei(regs, k, pins, mem, w, i),
-        Kind::Nop => Deed::Nothing,
+        Kind::Nop => plan(Deed::Nothing, 6),
         Kind::Pop(w) => pop(regs, k, pins, mem, w, i),
         Kind::Push(w) => push(regs, k, pins, w, i),
         Kind::Rcf => rcf(regs, k),
         Kind::Ret => ret(regs, k, pins, mem),
         Kind::Scf => scf(regs, k),
-        Kind::Srp => load(0xFD, i.first),
+        Kind::Srp => plan(load(0xFD, i.first), 6),
     }
 }

@@ -13,7 +13,7 @@ use Rattle.machine.specs.State.{held, placed, withPc}
 use Rattle.machine.specs.Ports.{bitsIf}
 use Rattle.machine.specs.Registers.{readReg, writeReg}
 use Rattle.machine.specs.Addresses.{readPair, writePair}
-use Rattle.machine.specs.Stack.{Stacked, isInside, pushed, raised}
+use Rattle.machine.specs.Stack.{Stacked, pushed, raised}
 use Rattle.machine.specs.declared.Machine.{Machine}
 use Rattle.machine.specs.declared.Core.{Core}
 use Rattle.machine.specs.declared.stack.Pushed.{Pushed}
@@ -105,20 +105,3 @@ doneOf p m (to.ReturnFromInterrupt flags a) = still (interruptReturned m flags a
 doneOf p m (to.Jump taken a) = still (jumped m taken a)
 doneOf p m (to.Loop r v a) = still (looped m r v a)
 doneOf p m (to.Interrupts on) = still (interruptsTo m on)
-
--- which of two figures in the map it costs: the first where the jump is taken, or the stack inside before anything is written
-unfoldable pub firstOf : Machine → Deed → Bool
-firstOf m to.Nothing = true
-firstOf m (to.Move t) = true
-firstOf m (to.Store dst o) = true
-firstOf m (to.StoreWord dst o) = true
-firstOf m (to.Test e) = true
-firstOf m (to.Block t r rr) = true
-firstOf m (to.Push v) = isInside m
-firstOf m (to.Pop dst v) = true
-firstOf m (to.Call a) = true
-firstOf m (to.Return a) = true
-firstOf m (to.ReturnFromInterrupt flags a) = true
-firstOf m (to.Jump taken a) = taken
-firstOf m (to.Loop r v a) = not (eqb v 0)
-firstOf m (to.Interrupts on) = true

@@ -16,10 +16,10 @@ use Rattle.machine.specs.declared.Core.{Core}
 use Rattle.machine.specs.declared.Pins.{Pins}
 use Rattle.machine.specs.declared.Stores.{Stores}
 use Rattle.machine.specs.declared.Stores.the-variants.{Nothing}
-use Rattle.deeds.specs.Pages.{deedOf}
+use Rattle.deeds.specs.Pages.{deedOf, firstOf}
 use Rattle.deeds.specs.declared.Code.{Code}
 use Rattle.deeds.specs.declared.Deed.{Deed}
-use Rattle.execute.specs.Doing.{doneOf, firstOf}
+use Rattle.execute.specs.Doing.{doneOf}
 use Rattle.execute.specs.declared.Executed.{Executed}
 
 -- what an instruction comes to: 0 or a refusal's number, its cycles, what is to be stored in data memory (`storedIn` of the room `machine`

@@ -13,8 +13,8 @@ ghost use mathlib.Core.Path.{_≡_};
 ghost use Prim.Native.Nat.{_≤_};
 ghost use Rattle.machine.specs.State.{whole};
 ghost use Rattle.machine.specs.Ports.{bitsIf};
-ghost use Rattle.machine.specs.Stack.{stackedOf};
-ghost use Rattle.execute.specs.Doing.{flagged, storedAt, wordStoredAt, stillCore, transferred, countedUp, pairCountedUp, blockMoved, popped, returned, interruptsTo, interruptReturned, called, jumped, looped, doneOf, firstOf};
+ghost use Rattle.machine.specs.Stack.{stackedOf, pushed};
+ghost use Rattle.execute.specs.Doing.{flagged, storedAt, wordStoredAt, stillCore, transferred, countedUp, pairCountedUp, blockMoved, popped, returned, interruptsTo, interruptReturned, called, jumped, looped, doneOf};
 
 // The affected flags, on the FLAGS byte that is in place by now.
 fn lay(regs: &mut [u8; 256], k: Core, e: Flags) -> Core
@@ -139,13 +139,24 @@ fn iret(regs: &mut [u8; 256], k: Core, flags: u8, to: u16) -> Core
     interrupts(regs, back, true)
 }
 
+// Bytes pushed. As in `write`, what is returned is put together from parts.
+fn push(regs: &mut [u8; 256], k: Core, b: Bytes) -> Pushed
+    ensures { λ r. ⌜ stackedOf (now (regs .exit)) r ≡ pushed (whole (now (regs .entry)) k) b ⌝ }
+{
+    let p = machine::stack::push(regs, k, b);
+    let n = p.k;
+    let stores = p.stores;
+    let after = machine::keeping(k, n);
+    Pushed { k: after, stores }
+}
+
 fn call(regs: &mut [u8; 256], k: Core, to: u16) -> Pushed
     ensures { λ r. ⌜ stackedOf (now (regs .exit)) r ≡ called (whole (now (regs .entry)) k) to ⌝ }
 {
     let hi = word::high_byte(k.pc);
     let lo = word::low_byte(k.pc);
     let b = Bytes::Two(hi, lo);
-    let pushed = machine::stack::push(regs, k, b);
+    let pushed = push(regs, k, b);
     let k1 = pushed.k;
     let stores = pushed.stores;
     let there = machine::at_pc(k1, to);
@@ -165,28 +176,6 @@ fn djnz(regs: &mut [u8; 256], k: Core, r: u8, v: u8, to: u16) -> Core
     jump(regs, stored, v != 0, to)
 }
 
-// Which of two figures in the map a deed costs, looked at before it is done.
-pub fn first(regs: &[u8; 256], k: Core, d: Deed) -> bool
-    ensures { λ r. ⌜ r ≡ firstOf (whole (now (regs .entry)) k) d ⌝ }
-{
-    match d {
-        Deed::Nothing => true,
-        Deed::Move(_) => true,
-        Deed::Store(_, _) => true,
-        Deed::StoreWord(_, _) => true,
-        Deed::Test(_) => true,
-        Deed::Block(_, _, _) => true,
-        Deed::Push(_) => machine::stack::is_inside(regs, k),
-        Deed::Pop(_, _) => true,
-        Deed::Call(_) => true,
-        Deed::Return(_) => true,
-        Deed::ReturnFromInterrupt(_, _) => true,
-        Deed::Jump(taken, _) => taken,
-        Deed::Loop(_, v, _) => v != 0,
-        Deed::Interrupts(_) => true,
-    }
-}
-
 // A deed done.
 pub fn carry_out(regs: &mut [u8; 256], k: Core, pins: Pins, d: Deed) -> Pushed
     ensures { λ r. ⌜ stackedOf (now (regs .exit)) r ≡ doneOf pins (whole (now (regs .entry)) k) d ⌝ }
@@ -198,7 +187,7 @@ pub fn carry_out(regs: &mut [u8; 256], k: Core, pins: Pins, d: Deed) -> Pushed
         Deed::StoreWord(dst, o) => still(store_word(regs, k, dst, o)),
         Deed::Test(e) => still(lay(regs, k, e)),
         Deed::Block(t, r, rr) => block(regs, k, pins, t, r, rr),
-        Deed::Push(v) => machine::stack::push(regs, k, Bytes::One(v)),
+        Deed::Push(v) => push(regs, k, Bytes::One(v)),
         Deed::Pop(dst, v) => still(pop(regs, k, dst, v)),
         Deed::Call(to) => call(regs, k, to),
         Deed::Return(to) => still(ret(regs, k, to)),

@@ -9,6 +9,7 @@ use machine::Stores;
 use opcodes::Entry;
 use opcodes::Kind;
 ghost use mathlib.Core.Path.{_≡_};
+ghost use Rattle.opcodes.specs.Map.{entryOf};
 ghost use Rattle.machine.specs.State.{whole};
 ghost use Rattle.execute.specs.Execute.{executionOf, codeAt, refused, performOf, executeAs, executeOf};
 
@@ -53,20 +54,20 @@ pub fn perform(
     kind: Kind,
     i: Code,
 ) -> Executed
+    requires { ⌜ entryOf (i .op) ≡ Entry.Of kind ⌝ }
     ensures { λ r. ⌜ executionOf (now (regs .exit)) r ≡ performOf pins (now (image .entry)) (now (mem .entry)) (whole (now (regs .entry)) k) kind i ⌝ }
 {
     let length = opcodes::instruction::length_of(i.op);
     let next = word::plus(k.pc, length as u16);
     let at = machine::at_pc(k, next);
-    let d = deeds::pages::deed(regs, at, pins, image, mem, kind, i);
-    let first = doing::first(regs, at, d);
-    let cycles = opcodes::cycles::cycles_of(i.op, first);
-    let done = doing::carry_out(regs, at, pins, d);
+    let plan = deeds::pages::deed(regs, at, pins, image, mem, kind, i);
+    let deed = plan.deed;
+    let done = doing::carry_out(regs, at, pins, deed);
     let stores = done.stores;
     let after = done.k;
     Executed {
         refusal: 0,
-        cycles,
+        cycles: plan.cycles,
         stores,
         k: after,
     }

@@ -1,10 +1,21 @@
--- A place or a program counter put into the parts of a machine that is known. Assumes nothing.
-use mathlib.Core.Path.{_≡_}
-use mathlib.Core.List.{List}
-use Prim.Native.Nat.{ℕ}
-use Rattle.machine.specs.State.{placedIn, whole, placed, atPc, withPc}
+-- The parts of a machine that is known: with a place or a program counter put in, and with what no store moves kept. Assumes nothing.
+use mathlib.Core.Path.{_≡_, _∙_, refl}
+use mathlib.Core.List.{List, [], _∷_}
+use Prim.Native.Nat.{ℕ, _+_, _-_, _*_, _%_}
+use lib.Dec.{eqb, ltb}
+use lib.ListN.{length}
+use Rattle.word.specs.Fields.{upper, highByte}
+use Rattle.word.specs.Words.{plus}
+use Rattle.word.proofs.Computed.{by-test}
+use Rattle.timers.specs.Clock.{written}
+use Rattle.machine.specs.State.{placedIn, whole, placed, atPc, withPc, keeping}
+use Rattle.machine.specs.Clock.{movingOf, countsAt, writeTmr}
+use Rattle.machine.specs.Registers.{isHole, writePort, writeReg}
+use Rattle.machine.specs.Memory.{listOf}
+use Rattle.machine.specs.Stack.{Stacked, isInside, spl, spOf, spSet, writtenFrom, pushedInside, pushedOutside, pushed}
 use Rattle.machine.specs.declared.Machine.{Machine}
 use Rattle.machine.specs.declared.Core.{Core}
+use Rattle.machine.specs.declared.Bytes.{Bytes}
 
 pub placed-is : {file : List ℕ} {k : Core} {m : Machine} (a v : ℕ) → whole file k ≡ m → whole (placedIn file a v) k ≡ placed m a v
 unfolding placed
@@ -13,3 +24,56 @@ placed-is a v e = rw (← e)
 pub pc-is : {file : List ℕ} {k : Core} {m : Machine} (pc : ℕ) → whole file k ≡ m → whole file (atPc k pc) ≡ withPc m pc
 unfolding withPc
 pc-is pc e = rw (← e)
+
+-- n has what m has where no store moves it
+pub record Keeps (m n : Machine) : Type 0 where
+  pub pc-kept : n .pc ≡ m .pc
+  pub divider-kept : n .divider ≡ m .divider
+  pub last3-kept : n .last3 ≡ m .last3
+  pub kind-kept : n .kind ≡ m .kind
+  pub cost-kept : n .cost ≡ m .cost
+
+itself : (m : Machine) → Keeps m m
+itself m = record { pc-kept = refl; divider-kept = refl; last3-kept = refl; kind-kept = refl; cost-kept = refl }
+
+keeps-on : {m n o : Machine} → Keeps m n → Keeps n o → Keeps m o
+keeps-on f g =
+    record {
+      pc-kept = g .pc-kept ∙ f .pc-kept;
+      divider-kept = g .divider-kept ∙ f .divider-kept;
+      last3-kept = g .last3-kept ∙ f .last3-kept;
+      kind-kept = g .kind-kept ∙ f .kind-kept;
+      cost-kept = g .cost-kept ∙ f .cost-kept;
+    }
+
+place-keeps : (m : Machine) (a v : ℕ) → Keeps m (placed m a v)
+unfolding placed
+place-keeps m a v = record { pc-kept = refl; divider-kept = refl; last3-kept = refl; kind-kept = refl; cost-kept = refl }
+
+tmr-keeps : (m : Machine) (v : ℕ) → Keeps m (writeTmr m v)
+unfolding writeTmr countsAt placed written movingOf
+tmr-keeps m v = record { pc-kept = refl; divider-kept = refl; last3-kept = refl; kind-kept = refl; cost-kept = refl }
+
+pub write-keeps : (m : Machine) (a v : ℕ) → Keeps m (writeReg m a v)
+unfolding writeReg writePort
+write-keeps m a v =
+    by-test (Keeps m) (ltb a 0x04) (λ t. place-keeps m a _) (λ t.
+    by-test (Keeps m) (isHole a) (λ u. itself m) (λ u.
+    by-test (Keeps m) (eqb a 0xF1) (λ e. tmr-keeps m v) (λ u.
+    by-test (Keeps m) (eqb a 0xFA) (λ e. place-keeps m a (v % 64)) (λ u.
+    by-test (Keeps m) (eqb a 0xFD) (λ e. place-keeps m a (upper v * 16)) (λ u. place-keeps m a v)))))
+
+from-keeps : (m : Machine) (a : ℕ) (vs : List ℕ) → Keeps m (writtenFrom m a vs)
+from-keeps m a [] = itself m
+from-keeps m a (v ∷ vs) = keeps-on (write-keeps m a v) (from-keeps (writeReg m a v) ((a + 1) % 256) vs)
+
+pub push-keeps : (m : Machine) (b : Bytes) → Keeps m (pushed m b .machine)
+unfolding pushed pushedInside pushedOutside spSet
+push-keeps m b =
+    by-test (λ (s : Stacked). Keeps m (s .machine)) (isInside m)
+    (λ t. keeps-on (place-keeps m 0xFF _) (from-keeps (placed m 0xFF ((spl m + (256 - length (listOf b))) % 256)) ((spl m + (256 - length (listOf b))) % 256) (listOf b)))
+    (λ t. keeps-on (place-keeps m 0xFE _) (place-keeps (placed m 0xFE (highByte (plus (spOf m) (65536 - length (listOf b))))) 0xFF _))
+
+-- so what is kept of k is nothing else than n
+pub kept-is : {file file₀ : List ℕ} {k n : Core} {o : Machine} → Keeps (whole file₀ k) o → whole file n ≡ o → whole file (keeping k n) ≡ o
+kept-is h e = rw (← h .pc-kept, ← h .divider-kept, ← h .last3-kept, ← h .kind-kept, ← h .cost-kept, ← e)

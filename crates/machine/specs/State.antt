@@ -64,3 +64,17 @@ atPc k pc =
 
 unfoldable pub withPc : Machine → ℕ → Machine
 withPc m pc = whole (m .regs) (atPc (coreOf m) pc)
+
+-- the rest of a machine with other counts and T_OUT, n's: what a store may move of it
+abbrev pub keeping : Core → Core → Core
+keeping k n =
+    record {
+      pc = k .pc;
+      divider = k .divider;
+      t0 = n .t0;
+      t1 = n .t1;
+      last3 = k .last3;
+      tout = n .tout;
+      kind = k .kind;
+      cost = k .cost;
+    }

@@ -67,13 +67,14 @@ fn even(a: u8) -> u8
     a / 2 * 2
 }
 
-// The word that a pair reads.
+// The word that a pair reads. With a second caller `read_any` stays out of line, and `read`, which looks at general registers first, is
+// small enough for the compiler to put it in line wherever it is called. The same holds of `write_any` and `write`.
 pub fn read_pair(regs: &[u8; 256], k: Core, pins: Pins, a: u8) -> u16
     ensures { λ r. ⌜ r ≡ readPair pins (whole (now (regs .entry)) k) a ⌝ }
 {
     let high = even(a);
-    let hi = crate::registers::read(regs, k, pins, high);
-    let lo = crate::registers::read(regs, k, pins, high + 1);
+    let hi = crate::registers::read_any(regs, k, pins, high);
+    let lo = crate::registers::read_any(regs, k, pins, high + 1);
     word::word(hi, lo)
 }
 
@@ -84,6 +85,6 @@ pub fn write_pair(regs: &mut [u8; 256], k: Core, a: u8, w: u16) -> Core
     let high = even(a);
     let hi = word::high_byte(w);
     let lo = word::low_byte(w);
-    let k1 = crate::registers::write(regs, k, high, hi);
-    crate::registers::write(regs, k1, high + 1, lo)
+    let k1 = crate::registers::write_any(regs, k, high, hi);
+    crate::registers::write_any(regs, k1, high + 1, lo)
 }

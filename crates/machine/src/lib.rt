@@ -10,7 +10,7 @@ pub mod start;
 
 use timers::Timer;
 ghost use mathlib.Core.Path.{_≡_};
-ghost use Rattle.machine.specs.State.{whole, coreOf, atPc};
+ghost use Rattle.machine.specs.State.{whole, coreOf, atPc, keeping};
 ghost use Rattle.machine.specs.Ports.{bitsIf};
 
 // 01's machine: the register file in address order, the program counter, the divider, both timers' counts in progress, the last Port 3
@@ -102,6 +102,24 @@ pub fn at_pc(k: Core, pc: u16) -> Core
     let mut n = k;
     n.pc = pc;
     n
+}
+
+// k with the counts and the T_OUT level of n: what a store may move of a machine's rest.
+pub fn keeping(k: Core, n: Core) -> Core
+    ensures { λ r. ⌜ r ≡ keeping k n ⌝ }
+{
+    let t0 = n.t0;
+    let t1 = n.t1;
+    Core {
+        pc: k.pc,
+        divider: k.divider,
+        t0,
+        t1,
+        last3: k.last3,
+        tout: n.tout,
+        kind: k.kind,
+        cost: k.cost,
+    }
 }
 
 // These bits where the test holds, else none.

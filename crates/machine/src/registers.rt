@@ -50,7 +50,7 @@ fn is_general(a: u8) -> bool
 }
 
 // What register a reads, whichever it is.
-fn read_any(regs: &[u8; 256], k: Core, pins: Pins, a: u8) -> u8
+pub fn read_any(regs: &[u8; 256], k: Core, pins: Pins, a: u8) -> u8
     ensures { λ r. ⌜ r ≡ readReg pins (whole (now (regs .entry)) k) a ⌝ }
 {
     let t0 = k.t0;
@@ -79,7 +79,7 @@ pub fn read(regs: &[u8; 256], k: Core, pins: Pins, a: u8) -> u8
 }
 
 // A store of v to register a, whichever it is.
-fn write_any(regs: &mut [u8; 256], k: Core, a: u8, v: u8) -> Core
+pub fn write_any(regs: &mut [u8; 256], k: Core, a: u8, v: u8) -> Core
     ensures { λ r. ⌜ whole (now (regs .exit)) r ≡ writeReg (whole (now (regs .entry)) k) a v ⌝ }
 {
     match a {
@@ -101,7 +101,8 @@ fn write_any(regs: &mut [u8; 256], k: Core, a: u8, v: u8) -> Core
     }
 }
 
-// A store of v to register a.
+// A store of v to register a. `keeping` says nothing new; but where what is returned is put together from parts, the compiler leaves the
+// parts in registers, and where it is another call's answer they live in memory.
 pub fn write(regs: &mut [u8; 256], k: Core, a: u8, v: u8) -> Core
     ensures { λ r. ⌜ whole (now (regs .exit)) r ≡ writeReg (whole (now (regs .entry)) k) a v ⌝ }
 {
@@ -110,5 +111,6 @@ pub fn write(regs: &mut [u8; 256], k: Core, a: u8, v: u8) -> Core
         place(regs, a, v);
         return k;
     }
-    write_any(regs, k, a, v)
+    let n = write_any(regs, k, a, v);
+    crate::keeping(k, n)
 }

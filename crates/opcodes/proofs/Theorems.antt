@@ -1,20 +1,24 @@
 -- What the map promises besides the functions' contracts: which opcodes are undefined and how many are defined, what each costs, and
 -- that decoding and encoding undo each other. Tests over all 256 opcodes are computed; operand bytes are variables throughout.
 -- Assumes nothing.
-use mathlib.Core.Path.{_≡_, refl, sym}
+use mathlib.Core.Path.{_≡_, _∙_, refl, sym, ap, subst}
 use mathlib.Core.Bool.{Bool, true, false, _&&_, _||_}
 use mathlib.Core.List.{List, [], _∷_, _++_}
 use Prim.Native.Nat.{ℕ, zero, suc, _+_, _*_, _≤_, _<_}
 use native.Mathlib.Omega.{arith}
+use native.Mathlib.Decide.{decLt}
+use lib.ListN.{getD, List·getD-eq-default}
+use Rattle.word.specs.Fields.{upper, lower}
 use lib.Dec.{T, eqb, leb, eqb→eq, leb→le}
 use Rattle.word.specs.Choose.{pick, oneIf}
-use Rattle.word.proofs.Computed.{below, at, and-left, and-right}
+use Rattle.word.proofs.Computed.{below, at, and-left, and-right, agree}
 use Rattle.opcodes.specs.declared.Entry.{Entry}
 use Rattle.opcodes.specs.declared.Entry.the-variants.{Blank, Of}
 use Rattle.opcodes.specs.declared.Kind.{Kind}
 use Rattle.opcodes.specs.declared.Decoded.the-variants as decoded
 use Rattle.opcodes.specs.declared.Encoded.the-variants as encoded
 use Rattle.opcodes.specs.Map.{entryOf, opcodeMap}
+use Rattle.opcodes.specs.Columns.{costOf}
 use Rattle.opcodes.specs.Cycles.{cyclesOf, cycleMap}
 use Rattle.opcodes.specs.Instruction.{defined, lengthOf, operand, decodeOf, decodedAs, encodeOf, isInstruction}
 
@@ -67,6 +71,31 @@ cycles-range op first h d =
 pub blank-costs-nothing : (op : ℕ) (first : Bool) → op < 256 → defined (entryOf op) ≡ false → cyclesOf op first ≡ 0
 unfolding inRange
 blank-costs-nothing op first h d = eqb→eq (cyclesOf op first) 0 (rw d at (at (inRange first) 256 (ranges first) op h))
+
+-- the cycles by an opcode's entry
+abbrev byEntry : Bool → Entry → ℕ
+byEntry first Blank = 0
+byEntry first (Of k) = costOf k first
+
+entry-cycles : (first : Bool) (op : ℕ) → op < 256 → cyclesOf op first ≡ byEntry first (entryOf op)
+unfolding entryOf opcodeMap cyclesOf cycleMap
+entry-cycles true op h = agree (λ x. cyclesOf x true) (λ x. byEntry true (entryOf x)) 256 refl op h
+entry-cycles false op h = agree (λ x. cyclesOf x false) (λ x. byEntry false (entryOf x)) 256 refl op h
+
+-- nothing is defined past the map's 256 cells
+beyond : (op : ℕ) → 256 ≤ op → entryOf op ≡ Blank
+unfolding entryOf opcodeMap
+beyond op h = ap (λ row. getD row (lower op) Blank) (List·getD-eq-default opcodeMap [] {n = upper op} (omega arith))
+
+blank-or : {k : Kind} → Blank ≡ Of k → ⊥
+blank-or e = subst (λ (x : Entry). T (defined x)) (sym e) tt
+
+pub cycles-by-kind : {k : Kind} (op : ℕ) (first : Bool) → entryOf op ≡ Of k → cyclesOf op first ≡ costOf k first
+cycles-by-kind {k} op first e = go (decLt op 256)
+  where
+    go : Dec (op < 256) → cyclesOf op first ≡ costOf k first
+    go (yes h) = entry-cycles first op h ∙ ap (byEntry first) e
+    go (no h) = absurd (blank-or (sym (beyond op (omega arith)) ∙ e))
 
 -- a byte that is zero where the instruction hasn't it
 zero-else : (has : Bool) (b : ℕ) → has || eqb (pick has b 0) 0 ≡ true

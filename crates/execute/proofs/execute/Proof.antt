@@ -2,6 +2,7 @@ use borrow.Author.Needs.{needs}
 use Rattle.execute.proofs.execute.Statement.{statement}
 use Rattle.execute.proofs.execute.Tie as tie
 use Rattle.execute.specs.Execute.{executeOf, executeAs}
+use mathlib.Core.Path.{_∙_, sym}
 
 fetch-requires : tie.Need-fetch-requires
 fetch-requires c κs = search needs
@@ -19,7 +20,7 @@ enum-known-e : tie.Need-enum-known-e
 enum-known-e c = search needs
 
 perform-requires : tie.Need-perform-requires
-perform-requires c κs = search needs
+perform-requires c κs = sym (c .before .before .before .before .entry-of .ensures) ∙ c .before .before .e .given .1
 
 returns : tie.Need-returns
 unfolding executeOf executeAs

@@ -15,6 +15,9 @@ lower-requires c κs = search needs
 from-register-requires : tie.Need-from-register-requires
 from-register-requires c κs = search needs
 
+costed-requires : tie.Need-costed-requires
+costed-requires c κs = search needs
+
 enum-told-2 : tie.Need-enum-told-2
 enum-told-2 c = search needs
 
@@ -26,6 +29,9 @@ working-indirect-requires c κs = search needs
 
 from-register-requires-2 : tie.Need-from-register-requires-2
 from-register-requires-2 c κs = search needs
+
+costed-requires-2 : tie.Need-costed-requires-2
+costed-requires-2 c κs = search needs
 
 enum-told-3 : tie.Need-enum-told-3
 enum-told-3 c = search needs
@@ -39,6 +45,9 @@ register-requires-2 c κs = search needs
 from-register-requires-3 : tie.Need-from-register-requires-3
 from-register-requires-3 c κs = search needs
 
+costed-requires-3 : tie.Need-costed-requires-3
+costed-requires-3 c κs = search needs
+
 enum-told-4 : tie.Need-enum-told-4
 enum-told-4 c = search needs
 
@@ -51,11 +60,17 @@ register-requires-3 c κs = search needs
 from-register-requires-4 : tie.Need-from-register-requires-4
 from-register-requires-4 c κs = search needs
 
+costed-requires-4 : tie.Need-costed-requires-4
+costed-requires-4 c κs = search needs
+
 enum-told-5 : tie.Need-enum-told-5
 enum-told-5 c = search needs
 
 register-requires-4 : tie.Need-register-requires-4
 register-requires-4 c κs = search needs
+
+costed-requires-5 : tie.Need-costed-requires-5
+costed-requires-5 c κs = search needs
 
 enum-told-6 : tie.Need-enum-told-6
 enum-told-6 c = search needs
@@ -63,11 +78,17 @@ enum-told-6 c = search needs
 indirect-requires-2 : tie.Need-indirect-requires-2
 indirect-requires-2 c κs = search needs
 
+costed-requires-6 : tie.Need-costed-requires-6
+costed-requires-6 c κs = search needs
+
 enum-told-7 : tie.Need-enum-told-7
 enum-told-7 c = search needs
 
 upper-requires-3 : tie.Need-upper-requires-3
 upper-requires-3 c κs = search needs
+
+costed-requires-7 : tie.Need-costed-requires-7
+costed-requires-7 c κs = search needs
 
 enum-told-8 : tie.Need-enum-told-8
 enum-told-8 c = search needs
@@ -81,6 +102,9 @@ register-requires-5 c κs = search needs
 from-register-requires-5 : tie.Need-from-register-requires-5
 from-register-requires-5 c κs = search needs
 
+costed-requires-8 : tie.Need-costed-requires-8
+costed-requires-8 c κs = search needs
+
 enum-told-9 : tie.Need-enum-told-9
 enum-told-9 c = search needs
 
@@ -92,6 +116,9 @@ upper-requires-5 c κs = search needs
 
 from-register-requires-6 : tie.Need-from-register-requires-6
 from-register-requires-6 c κs = search needs
+
+costed-requires-9 : tie.Need-costed-requires-9
+costed-requires-9 c κs = search needs
 
 enum-told-10 : tie.Need-enum-told-10
 enum-told-10 c = search needs
@@ -105,6 +132,9 @@ indexed-requires c κs = search needs
 from-register-requires-7 : tie.Need-from-register-requires-7
 from-register-requires-7 c κs = search needs
 
+costed-requires-10 : tie.Need-costed-requires-10
+costed-requires-10 c κs = search needs
+
 enum-told-11 : tie.Need-enum-told-11
 enum-told-11 c = search needs
 
@@ -116,6 +146,9 @@ upper-requires-7 c κs = search needs
 
 from-register-requires-8 : tie.Need-from-register-requires-8
 from-register-requires-8 c κs = search needs
+
+costed-requires-11 : tie.Need-costed-requires-11
+costed-requires-11 c κs = search needs
 
 enum-told-12 : tie.Need-enum-told-12
 enum-told-12 c = search needs
@@ -129,6 +162,9 @@ lower-requires-2 c κs = search needs
 from-register-requires-9 : tie.Need-from-register-requires-9
 from-register-requires-9 c κs = search needs
 
+costed-requires-12 : tie.Need-costed-requires-12
+costed-requires-12 c κs = search needs
+
 enum-told-13 : tie.Need-enum-told-13
 enum-told-13 c = search needs
 
@@ -141,57 +177,60 @@ indirect-requires-3 c κs = search needs
 from-register-requires-10 : tie.Need-from-register-requires-10
 from-register-requires-10 c κs = search needs
 
+costed-requires-13 : tie.Need-costed-requires-13
+costed-requires-13 c κs = search needs
+
 returns : tie.Need-returns
 unfolding operandsOf
-returns c = rw (c .from-register .ensures, c .before .lower .ensures, c .before .before .upper .ensures, c .before .before .before .enum-told .given .1)
+returns c = rw (c .costed .ensures, c .before .from-register .ensures, c .before .before .lower .ensures, c .before .before .before .upper .ensures, c .before .before .before .before .enum-told .given .1)
 
 returns-2 : tie.Need-returns-2
 unfolding operandsOf
-returns-2 c = rw (c .from-register2 .ensures, c .before .working-indirect .ensures, c .before .before .before .upper2 .ensures, c .before .before .struct-known .given .1, c .before .before .before .before .enum-told2 .given .1)
+returns-2 c = rw (c .costed2 .ensures, c .before .from-register2 .ensures, c .before .before .working-indirect .ensures, c .before .before .before .before .upper2 .ensures, c .before .before .before .struct-known .given .1, c .before .before .before .before .before .enum-told2 .given .1)
 
 returns-3 : tie.Need-returns-3
 unfolding operandsOf
-returns-3 c = rw (c .from-register3 .ensures, c .before .register2 .ensures, c .before .before .register .ensures, c .before .before .before .enum-told3 .given .1)
+returns-3 c = rw (c .costed3 .ensures, c .before .from-register3 .ensures, c .before .before .register2 .ensures, c .before .before .before .register .ensures, c .before .before .before .before .enum-told3 .given .1)
 
 returns-4 : tie.Need-returns-4
 unfolding operandsOf
-returns-4 c = rw (c .from-register4 .ensures, c .before .register3 .ensures, c .before .before .indirect .ensures, c .before .before .before .enum-told4 .given .1)
+returns-4 c = rw (c .costed4 .ensures, c .before .from-register4 .ensures, c .before .before .register3 .ensures, c .before .before .before .indirect .ensures, c .before .before .before .before .enum-told4 .given .1)
 
 returns-5 : tie.Need-returns-5
 unfolding operandsOf
-returns-5 c = rw (c .register4 .ensures, c .before .enum-told5 .given .1)
+returns-5 c = rw (c .costed5 .ensures, c .before .register4 .ensures, c .before .before .enum-told5 .given .1)
 
 returns-6 : tie.Need-returns-6
 unfolding operandsOf
-returns-6 c = rw (c .indirect2 .ensures, c .before .enum-told6 .given .1)
+returns-6 c = rw (c .costed6 .ensures, c .before .indirect2 .ensures, c .before .before .enum-told6 .given .1)
 
 returns-7 : tie.Need-returns-7
 unfolding operandsOf
-returns-7 c = rw (c .upper3 .ensures, c .before .enum-told7 .given .1)
+returns-7 c = rw (c .costed7 .ensures, c .before .upper3 .ensures, c .before .before .enum-told7 .given .1)
 
 returns-8 : tie.Need-returns-8
 unfolding operandsOf
-returns-8 c = rw (c .from-register5 .ensures, c .before .register5 .ensures, c .before .before .upper4 .ensures, c .before .before .before .enum-told8 .given .1)
+returns-8 c = rw (c .costed8 .ensures, c .before .from-register5 .ensures, c .before .before .register5 .ensures, c .before .before .before .upper4 .ensures, c .before .before .before .before .enum-told8 .given .1)
 
 returns-9 : tie.Need-returns-9
 unfolding operandsOf
-returns-9 c = rw (c .from-register6 .ensures, c .before .upper5 .ensures, c .before .before .register6 .ensures, c .before .before .before .enum-told9 .given .1)
+returns-9 c = rw (c .costed9 .ensures, c .before .from-register6 .ensures, c .before .before .upper5 .ensures, c .before .before .before .register6 .ensures, c .before .before .before .before .enum-told9 .given .1)
 
 returns-10 : tie.Need-returns-10
 unfolding operandsOf
-returns-10 c = rw (c .from-register7 .ensures, c .before .indexed .ensures, c .before .before .before .upper6 .ensures, c .before .before .struct-known2 .given .1, c .before .before .before .before .enum-told10 .given .1)
+returns-10 c = rw (c .costed10 .ensures, c .before .from-register7 .ensures, c .before .before .indexed .ensures, c .before .before .before .before .upper6 .ensures, c .before .before .before .struct-known2 .given .1, c .before .before .before .before .before .enum-told10 .given .1)
 
 returns-11 : tie.Need-returns-11
 unfolding operandsOf
-returns-11 c = rw (c .from-register8 .ensures, c .before .upper7 .ensures, c .before .before .indexed2 .ensures, c .before .before .before .struct-known3 .given .1, c .before .before .before .before .enum-told11 .given .1)
+returns-11 c = rw (c .costed11 .ensures, c .before .from-register8 .ensures, c .before .before .upper7 .ensures, c .before .before .before .indexed2 .ensures, c .before .before .before .before .struct-known3 .given .1, c .before .before .before .before .before .enum-told11 .given .1)
 
 returns-12 : tie.Need-returns-12
 unfolding operandsOf
-returns-12 c = rw (c .from-register9 .ensures, c .before .lower2 .ensures, c .before .before .working-indirect2 .ensures, c .before .before .before .struct-known4 .given .1, c .before .before .before .before .enum-told12 .given .1)
+returns-12 c = rw (c .costed12 .ensures, c .before .from-register9 .ensures, c .before .before .lower2 .ensures, c .before .before .before .working-indirect2 .ensures, c .before .before .before .before .struct-known4 .given .1, c .before .before .before .before .before .enum-told12 .given .1)
 
 returns-13 : tie.Need-returns-13
 unfolding operandsOf
-returns-13 c = rw (c .from-register10 .ensures, c .before .indirect3 .ensures, c .before .before .register7 .ensures, c .before .before .before .enum-told13 .given .1)
+returns-13 c = rw (c .costed13 .ensures, c .before .from-register10 .ensures, c .before .before .indirect3 .ensures, c .before .before .before .register7 .ensures, c .before .before .before .before .enum-told13 .given .1)
 
 pub two-spec : {M : Type 1} → statement M
 two-spec =
@@ -201,48 +240,61 @@ two-spec =
     upper-requires
     lower-requires
     from-register-requires
+    costed-requires
     enum-told-2
     upper-requires-2
     working-indirect-requires
     from-register-requires-2
+    costed-requires-2
     enum-told-3
     register-requires
     register-requires-2
     from-register-requires-3
+    costed-requires-3
     enum-told-4
     indirect-requires
     register-requires-3
     from-register-requires-4
+    costed-requires-4
     enum-told-5
     register-requires-4
+    costed-requires-5
     enum-told-6
     indirect-requires-2
+    costed-requires-6
     enum-told-7
     upper-requires-3
+    costed-requires-7
     enum-told-8
     upper-requires-4
     register-requires-5
     from-register-requires-5
+    costed-requires-8
     enum-told-9
     register-requires-6
     upper-requires-5
     from-register-requires-6
+    costed-requires-9
     enum-told-10
     upper-requires-6
     indexed-requires
     from-register-requires-7
+    costed-requires-10
     enum-told-11
     indexed-requires-2
     upper-requires-7
     from-register-requires-8
+    costed-requires-11
     enum-told-12
     working-indirect-requires-2
     lower-requires-2
     from-register-requires-9
+    costed-requires-12
     enum-told-13
     register-requires-7
     indirect-requires-3
     from-register-requires-10
+    costed-requires-13
     returns
     returns-2
     returns-3

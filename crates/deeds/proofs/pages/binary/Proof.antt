@@ -15,10 +15,14 @@ flags-requires c κs = search needs
 binary-requires : tie.Need-binary-requires
 binary-requires c κs = search needs
 
+plan-requires : tie.Need-plan-requires
+plan-requires c κs = search needs
+
 returns : tie.Need-returns
 unfolding binaryDeed
-returns c = rw (c .binary .ensures, c .before .flags .ensures, c .before .before .read .ensures, c .before .before .before .two .ensures)
+returns c = rw (c .plan .ensures, c .before .binary .ensures, c .before .before .flags .ensures, c .before .before .before .read .ensures, c .before .before .before .before .before .two .ensures)
 
 pub binary-spec : {M : Type 1} → statement M
 binary-spec =
-    tie.close (tie.spec two-requires read-requires flags-requires binary-requires returns)
+    tie.close
+    (tie.spec two-requires read-requires flags-requires binary-requires plan-requires returns)

@@ -6,9 +6,12 @@ use Rattle.deeds.specs.Pages.{callDeed}
 target-requires : tie.Need-target-requires
 target-requires c κs = search needs
 
+plan-requires : tie.Need-plan-requires
+plan-requires c κs = search needs
+
 returns : tie.Need-returns
 unfolding callDeed
-returns c = rw (c .target .ensures)
+returns c = rw (c .plan .ensures, c .before .target .ensures)
 
 pub call-spec : {M : Type 1} → statement M
-call-spec = tie.close (tie.spec target-requires returns)
+call-spec = tie.close (tie.spec target-requires plan-requires returns)

@@ -12,9 +12,12 @@ ccf-requires c κs = search needs
 load-requires : tie.Need-load-requires
 load-requires c κs = search needs
 
+plan-requires : tie.Need-plan-requires
+plan-requires c κs = search needs
+
 returns : tie.Need-returns
 unfolding ccfDeed
-returns c = rw (c .load .ensures, c .before .ccf .ensures, c .before .before .flags .ensures)
+returns c = rw (c .plan .ensures, c .before .load .ensures, c .before .before .ccf .ensures, c .before .before .before .flags .ensures)
 
 pub ccf-spec : {M : Type 1} → statement M
-ccf-spec = tie.close (tie.spec flags-requires ccf-requires load-requires returns)
+ccf-spec = tie.close (tie.spec flags-requires ccf-requires load-requires plan-requires returns)

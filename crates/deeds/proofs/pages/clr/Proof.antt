@@ -9,9 +9,12 @@ one-requires c κs = search needs
 load-requires : tie.Need-load-requires
 load-requires c κs = search needs
 
+plan-requires : tie.Need-plan-requires
+plan-requires c κs = search needs
+
 returns : tie.Need-returns
 unfolding clrDeed
-returns c = rw (c .load .ensures, c .before .one .ensures)
+returns c = rw (c .plan .ensures, c .before .load .ensures, c .before .before .one .ensures)
 
 pub clr-spec : {M : Type 1} → statement M
-clr-spec = tie.close (tie.spec one-requires load-requires returns)
+clr-spec = tie.close (tie.spec one-requires load-requires plan-requires returns)

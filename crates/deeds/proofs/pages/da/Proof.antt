@@ -18,11 +18,21 @@ da-requires c κs = search needs
 adjust-requires : tie.Need-adjust-requires
 adjust-requires c κs = search needs
 
+plan-requires : tie.Need-plan-requires
+plan-requires c κs = search needs
+
 returns : tie.Need-returns
 unfolding daDeed
-returns c = rw (c .adjust .ensures, c .before .da .ensures, c .before .before .flags .ensures, c .before .before .before .read .ensures, c .before .before .before .before .one .ensures)
+returns c = rw (c .plan .ensures, c .before .adjust .ensures, c .before .before .da .ensures, c .before .before .before .flags .ensures, c .before .before .before .before .read .ensures, c .before .before .before .before .before .one .ensures)
 
 pub da-spec : {M : Type 1} → statement M
 da-spec =
     tie.close
-    (tie.spec one-requires read-requires flags-requires da-requires adjust-requires returns)
+    (tie.spec
+    one-requires
+    read-requires
+    flags-requires
+    da-requires
+    adjust-requires
+    plan-requires
+    returns)

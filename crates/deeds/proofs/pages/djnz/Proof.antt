@@ -1,7 +1,7 @@
 use borrow.Author.Needs.{needs}
 use Rattle.deeds.proofs.pages.djnz.Statement.{statement}
 use Rattle.deeds.proofs.pages.djnz.Tie as tie
-use Rattle.deeds.specs.Pages.{djnzDeed}
+use Rattle.deeds.specs.Pages.{djnzDeed, firstOf}
 
 upper-requires : tie.Need-upper-requires
 upper-requires c κs = search needs
@@ -15,11 +15,24 @@ wrapping-add-u8-requires c κs = search needs
 moved-requires : tie.Need-moved-requires
 moved-requires c κs = search needs
 
+jump-cycles-requires : tie.Need-jump-cycles-requires
+jump-cycles-requires c κs = search needs
+
+plan-requires : tie.Need-plan-requires
+plan-requires c κs = search needs
+
 returns : tie.Need-returns
-unfolding djnzDeed
-returns c = rw (c .moved .ensures, c .before .wrapping-add-u8 .ensures, c .before .before .read .ensures, c .before .before .before .upper .ensures)
+unfolding djnzDeed firstOf
+returns c = rw (c .plan .ensures, c .before .jump-cycles .ensures, c .before .before .moved .ensures, c .before .before .before .wrapping-add-u8 .ensures, c .before .before .before .before .read .ensures, c .before .before .before .before .before .upper .ensures)
 
 pub djnz-spec : {M : Type 1} → statement M
 djnz-spec =
     tie.close
-    (tie.spec upper-requires read-requires wrapping-add-u8-requires moved-requires returns)
+    (tie.spec
+    upper-requires
+    read-requires
+    wrapping-add-u8-requires
+    moved-requires
+    jump-cycles-requires
+    plan-requires
+    returns)

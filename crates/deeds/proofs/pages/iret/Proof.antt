@@ -15,11 +15,20 @@ byte-at-requires-3 c κs = search needs
 word-requires : tie.Need-word-requires
 word-requires c κs = search needs
 
+plan-requires : tie.Need-plan-requires
+plan-requires c κs = search needs
+
 returns : tie.Need-returns
 unfolding iretDeed
-returns c = rw (c .word .ensures, c .before .byte-at3 .ensures, c .before .before .byte-at2 .ensures, c .before .before .before .byte-at .ensures)
+returns c = rw (c .plan .ensures, c .before .word .ensures, c .before .before .byte-at3 .ensures, c .before .before .before .byte-at2 .ensures, c .before .before .before .before .byte-at .ensures)
 
 pub iret-spec : {M : Type 1} → statement M
 iret-spec =
     tie.close
-    (tie.spec byte-at-requires byte-at-requires-2 byte-at-requires-3 word-requires returns)
+    (tie.spec
+    byte-at-requires
+    byte-at-requires-2
+    byte-at-requires-3
+    word-requires
+    plan-requires
+    returns)

@@ -12,9 +12,13 @@ upper-requires c κs = search needs
 data-move-requires : tie.Need-data-move-requires
 data-move-requires c κs = search needs
 
+plan-requires : tie.Need-plan-requires
+plan-requires c κs = search needs
+
 returns : tie.Need-returns
 unfolding ldeDeed
-returns c = rw (c .data-move .ensures, c .before .upper .ensures, c .before .before .pointed .ensures)
+returns c = rw (c .plan .ensures, c .before .data-move .ensures, c .before .before .upper .ensures, c .before .before .before .pointed .ensures)
 
 pub lde-spec : {M : Type 1} → statement M
-lde-spec = tie.close (tie.spec pointed-requires upper-requires data-move-requires returns)
+lde-spec =
+    tie.close (tie.spec pointed-requires upper-requires data-move-requires plan-requires returns)

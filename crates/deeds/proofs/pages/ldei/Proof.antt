@@ -18,9 +18,12 @@ upper-requires c κs = search needs
 lower-requires : tie.Need-lower-requires
 lower-requires c κs = search needs
 
+plan-requires : tie.Need-plan-requires
+plan-requires c κs = search needs
+
 returns : tie.Need-returns
 unfolding ldeiDeed
-returns c = rw (c .lower .ensures, c .before .upper .ensures, c .before .before .data-move .ensures, c .before .before .before .working-indirect .ensures, c .before .before .before .before .before .pointed .ensures, c .before .before .before .before .struct-known .given .1)
+returns c = rw (c .plan .ensures, c .before .lower .ensures, c .before .before .upper .ensures, c .before .before .before .data-move .ensures, c .before .before .before .before .working-indirect .ensures, c .before .before .before .before .before .before .pointed .ensures, c .before .before .before .before .before .struct-known .given .1)
 
 pub ldei-spec : {M : Type 1} → statement M
 ldei-spec =
@@ -31,4 +34,5 @@ ldei-spec =
     data-move-requires
     upper-requires
     lower-requires
+    plan-requires
     returns)

@@ -12,9 +12,13 @@ read-pair-requires c κs = search needs
 paired-requires : tie.Need-paired-requires
 paired-requires c κs = search needs
 
+plan-requires : tie.Need-plan-requires
+plan-requires c κs = search needs
+
 returns : tie.Need-returns
 unfolding pairedDeed
-returns c = rw (c .paired .ensures, c .before .read-pair .ensures, c .before .before .one .ensures)
+returns c = rw (c .plan .ensures, c .before .paired .ensures, c .before .before .read-pair .ensures, c .before .before .before .one .ensures)
 
 pub paired-spec : {M : Type 1} → statement M
-paired-spec = tie.close (tie.spec one-requires read-pair-requires paired-requires returns)
+paired-spec =
+    tie.close (tie.spec one-requires read-pair-requires paired-requires plan-requires returns)

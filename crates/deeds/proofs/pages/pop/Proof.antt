@@ -9,9 +9,12 @@ one-requires c κs = search needs
 byte-at-requires : tie.Need-byte-at-requires
 byte-at-requires c κs = search needs
 
+plan-requires : tie.Need-plan-requires
+plan-requires c κs = search needs
+
 returns : tie.Need-returns
 unfolding popDeed
-returns c = rw (c .byte-at .ensures, c .before .one .ensures)
+returns c = rw (c .plan .ensures, c .before .byte-at .ensures, c .before .before .one .ensures)
 
 pub pop-spec : {M : Type 1} → statement M
-pop-spec = tie.close (tie.spec one-requires byte-at-requires returns)
+pop-spec = tie.close (tie.spec one-requires byte-at-requires plan-requires returns)

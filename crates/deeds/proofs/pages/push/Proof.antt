@@ -1,7 +1,7 @@
 use borrow.Author.Needs.{needs}
 use Rattle.deeds.proofs.pages.push.Statement.{statement}
 use Rattle.deeds.proofs.pages.push.Tie as tie
-use Rattle.deeds.specs.Pages.{pushDeed}
+use Rattle.deeds.specs.Pages.{pushDeed, firstOf}
 
 one-requires : tie.Need-one-requires
 one-requires c κs = search needs
@@ -9,9 +9,26 @@ one-requires c κs = search needs
 read-requires : tie.Need-read-requires
 read-requires c κs = search needs
 
+is-inside-requires : tie.Need-is-inside-requires
+is-inside-requires c κs = search needs
+
+push-cycles-requires : tie.Need-push-cycles-requires
+push-cycles-requires c κs = search needs
+
+plan-requires : tie.Need-plan-requires
+plan-requires c κs = search needs
+
 returns : tie.Need-returns
-unfolding pushDeed
-returns c = rw (c .read .ensures, c .before .one .ensures)
+unfolding pushDeed firstOf
+returns c = rw (c .plan .ensures, c .before .push-cycles .ensures, c .before .before .is-inside .ensures, c .before .before .before .read .ensures, c .before .before .before .before .one .ensures)
 
 pub push-spec : {M : Type 1} → statement M
-push-spec = tie.close (tie.spec one-requires read-requires returns)
+push-spec =
+    tie.close
+    (tie.spec
+    one-requires
+    read-requires
+    is-inside-requires
+    push-cycles-requires
+    plan-requires
+    returns)

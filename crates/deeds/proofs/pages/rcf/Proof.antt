@@ -12,9 +12,12 @@ rcf-requires c κs = search needs
 load-requires : tie.Need-load-requires
 load-requires c κs = search needs
 
+plan-requires : tie.Need-plan-requires
+plan-requires c κs = search needs
+
 returns : tie.Need-returns
 unfolding rcfDeed
-returns c = rw (c .load .ensures, c .before .rcf .ensures, c .before .before .flags .ensures)
+returns c = rw (c .plan .ensures, c .before .load .ensures, c .before .before .rcf .ensures, c .before .before .before .flags .ensures)
 
 pub rcf-spec : {M : Type 1} → statement M
-rcf-spec = tie.close (tie.spec flags-requires rcf-requires load-requires returns)
+rcf-spec = tie.close (tie.spec flags-requires rcf-requires load-requires plan-requires returns)

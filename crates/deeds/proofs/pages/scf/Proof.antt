@@ -12,9 +12,12 @@ scf-requires c κs = search needs
 load-requires : tie.Need-load-requires
 load-requires c κs = search needs
 
+plan-requires : tie.Need-plan-requires
+plan-requires c κs = search needs
+
 returns : tie.Need-returns
 unfolding scfDeed
-returns c = rw (c .load .ensures, c .before .scf .ensures, c .before .before .flags .ensures)
+returns c = rw (c .plan .ensures, c .before .load .ensures, c .before .before .scf .ensures, c .before .before .before .flags .ensures)
 
 pub scf-spec : {M : Type 1} → statement M
-scf-spec = tie.close (tie.spec flags-requires scf-requires load-requires returns)
+scf-spec = tie.close (tie.spec flags-requires scf-requires load-requires plan-requires returns)

@@ -12,9 +12,12 @@ read-requires c κs = search needs
 test-requires : tie.Need-test-requires
 test-requires c κs = search needs
 
+plan-requires : tie.Need-plan-requires
+plan-requires c κs = search needs
+
 returns : tie.Need-returns
 unfolding testDeed
-returns c = rw (c .test .ensures, c .before .read .ensures, c .before .before .two .ensures)
+returns c = rw (c .plan .ensures, c .before .test .ensures, c .before .before .read .ensures, c .before .before .before .before .two .ensures)
 
 pub test-spec : {M : Type 1} → statement M
-test-spec = tie.close (tie.spec two-requires read-requires test-requires returns)
+test-spec = tie.close (tie.spec two-requires read-requires test-requires plan-requires returns)

@@ -12,18 +12,18 @@ high-byte-requires c κs = search needs
 low-byte-requires : tie.Need-low-byte-requires
 low-byte-requires c κs = search needs
 
-write-requires : tie.Need-write-requires
-write-requires c κs = search needs
+write-any-requires : tie.Need-write-any-requires
+write-any-requires c κs = search needs
 
-add-write : tie.Need-add-write
-add-write c = search needs
+add-write-any : tie.Need-add-write-any
+add-write-any c = search needs
 
-write-requires-2 : tie.Need-write-requires-2
-write-requires-2 c κs = search needs
+write-any-requires-2 : tie.Need-write-any-requires-2
+write-any-requires-2 c κs = search needs
 
 returns : tie.Need-returns
 unfolding writePair
-returns c = simp (c .write2 .ensures, c .before .before .write .ensures, c .before .before .before .before .low-byte .ensures, c .before .before .before .before .before .high-byte .ensures, c .before .before .before .before .before .before .even .ensures .0)
+returns c = simp (c .write-any2 .ensures, c .before .before .write-any .ensures, c .before .before .before .before .low-byte .ensures, c .before .before .before .before .before .high-byte .ensures, c .before .before .before .before .before .before .even .ensures .0)
 
 pub write-pair-spec : {M : Type 1} → statement M
 write-pair-spec =
@@ -32,7 +32,7 @@ write-pair-spec =
     even-requires
     high-byte-requires
     low-byte-requires
-    write-requires
-    add-write
-    write-requires-2
+    write-any-requires
+    add-write-any
+    write-any-requires-2
     returns)

@@ -4,6 +4,7 @@ use Rattle.machine.proofs.registers.write.Tie as tie
 use mathlib.Core.Path.{_∙_, sym}
 use Rattle.machine.specs.State.{placed}
 use Rattle.machine.proofs.Ranges.{general-range, general-stores}
+use Rattle.machine.proofs.Whole.{write-keeps, kept-is}
 
 is-general-requires : tie.Need-is-general-requires
 is-general-requires c κs = search needs
@@ -18,9 +19,12 @@ returns c = let range = general-range _ (sym (c .before .before .before .is-gene
 write-any-requires : tie.Need-write-any-requires
 write-any-requires c κs = search needs
 
+keeping-requires : tie.Need-keeping-requires
+keeping-requires c κs = search needs
+
 returns-2 : tie.Need-returns-2
-returns-2 c = c .write-any .ensures
+returns-2 c = rw (c .keeping .ensures) (kept-is (write-keeps _ _ _) (c .before .write-any .ensures))
 
 pub write-spec : {M : Type 1} → statement M
 write-spec =
-    tie.close (tie.spec is-general-requires place-requires returns write-any-requires returns-2)
+    tie.close (tie.spec is-general-requires place-requires returns write-any-requires keeping-requires returns-2)
