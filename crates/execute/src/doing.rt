@@ -139,10 +139,11 @@ fn iret(regs: &mut [u8; 256], k: Core, flags: u8, to: u16) -> Core
     interrupts(regs, back, true)
 }
 
-// Bytes pushed. As in `write`, what is returned is put together from parts.
-fn push(regs: &mut [u8; 256], k: Core, b: Bytes) -> Pushed
-    ensures { λ r. ⌜ stackedOf (now (regs .exit)) r ≡ pushed (whole (now (regs .entry)) k) b ⌝ }
+// As in `machine::registers::write`, what is returned is put together from parts, here and in `call`.
+fn push(regs: &mut [u8; 256], k: Core, v: u8) -> Pushed
+    ensures { λ r. ⌜ stackedOf (now (regs .exit)) r ≡ pushed (whole (now (regs .entry)) k) (Bytes.One v) ⌝ }
 {
+    let b = Bytes::One(v);
     let p = machine::stack::push(regs, k, b);
     let n = p.k;
     let stores = p.stores;
@@ -156,10 +157,11 @@ fn call(regs: &mut [u8; 256], k: Core, to: u16) -> Pushed
     let hi = word::high_byte(k.pc);
     let lo = word::low_byte(k.pc);
     let b = Bytes::Two(hi, lo);
-    let pushed = push(regs, k, b);
-    let k1 = pushed.k;
-    let stores = pushed.stores;
-    let there = machine::at_pc(k1, to);
+    let p = machine::stack::push(regs, k, b);
+    let n = p.k;
+    let stores = p.stores;
+    let after = machine::keeping(k, n);
+    let there = machine::at_pc(after, to);
     Pushed { k: there, stores }
 }
 
@@ -187,7 +189,7 @@ pub fn carry_out(regs: &mut [u8; 256], k: Core, pins: Pins, d: Deed) -> Pushed
         Deed::StoreWord(dst, o) => still(store_word(regs, k, dst, o)),
         Deed::Test(e) => still(lay(regs, k, e)),
         Deed::Block(t, r, rr) => block(regs, k, pins, t, r, rr),
-        Deed::Push(v) => push(regs, k, Bytes::One(v)),
+        Deed::Push(v) => push(regs, k, v),
         Deed::Pop(dst, v) => still(pop(regs, k, dst, v)),
         Deed::Call(to) => call(regs, k, to),
         Deed::Return(to) => still(ret(regs, k, to)),

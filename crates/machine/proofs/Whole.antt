@@ -1,5 +1,5 @@
 -- The parts of a machine that is known: with a place or a program counter put in, and with what no store moves kept. Assumes nothing.
-use mathlib.Core.Path.{_≡_, _∙_, refl}
+use mathlib.Core.Path.{_≡_, _∙_, refl, ap}
 use mathlib.Core.List.{List, [], _∷_}
 use Prim.Native.Nat.{ℕ, _+_, _-_, _*_, _%_}
 use lib.Dec.{eqb, ltb}
@@ -12,10 +12,11 @@ use Rattle.machine.specs.State.{placedIn, whole, placed, atPc, withPc, k
 use Rattle.machine.specs.Clock.{movingOf, countsAt, writeTmr}
 use Rattle.machine.specs.Registers.{isHole, writePort, writeReg}
 use Rattle.machine.specs.Memory.{listOf}
-use Rattle.machine.specs.Stack.{Stacked, isInside, spl, spOf, spSet, writtenFrom, pushedInside, pushedOutside, pushed}
+use Rattle.machine.specs.Stack.{Stacked, stackedOf, isInside, spl, spOf, spSet, writtenFrom, pushedInside, pushedOutside, pushed}
 use Rattle.machine.specs.declared.Machine.{Machine}
 use Rattle.machine.specs.declared.Core.{Core}
 use Rattle.machine.specs.declared.Bytes.{Bytes}
+use Rattle.machine.specs.declared.stack.Pushed.{Pushed}
 
 pub placed-is : {file : List ℕ} {k : Core} {m : Machine} (a v : ℕ) → whole file k ≡ m → whole (placedIn file a v) k ≡ placed m a v
 unfolding placed
@@ -77,3 +78,9 @@ push-keeps m b =
 -- so what is kept of k is nothing else than n
 pub kept-is : {file file₀ : List ℕ} {k n : Core} {o : Machine} → Keeps (whole file₀ k) o → whole file n ≡ o → whole file (keeping k n) ≡ o
 kept-is h e = rw (← h .pc-kept, ← h .divider-kept, ← h .last3-kept, ← h .kind-kept, ← h .cost-kept, ← e)
+
+-- the same of bytes pushed, with what is to be stored in data memory
+pub push-is : {file : List ℕ} {r : Pushed} (file₀ : List ℕ) (k : Core) (b : Bytes) → stackedOf file r ≡ pushed (whole file₀ k) b
+    → stackedOf file (record { k = keeping k (r .k); stores = r .stores }) ≡ pushed (whole file₀ k) b
+push-is file₀ k b e =
+    rw (kept-is (push-keeps (whole file₀ k) b) (ap (λ (s : Stacked). s .machine) e), ap (λ (s : Stacked). s .stores) e)
