@@ -1,10 +1,10 @@
--- 01's proved examples, one list: each is a test on the definitions. Those of DJNZ and of IPR join it with the rooms that say what
--- they are about. Assumes nothing.
+-- 01's proved examples, one list: each is a test on the definitions. That of IPR joins it with the room that says what it is about.
+-- Assumes nothing.
 use Prim.Native.Nat.{ℕ}
 use mathlib.Core.Bool.{Bool, true, false, _&&_}
-use mathlib.Core.List.{List, [], _∷_}
+use mathlib.Core.List.{List, [], _∷_, _++_}
 use lib.Dec.{eqb}
-use Rattle.word.specs.Words.{dispOf, movedBy}
+use lib.ListN.{replicate}
 use Rattle.alu.specs.declared.Outcome.{Outcome}
 use Rattle.alu.specs.declared.Adjusted.{Adjusted}
 use Rattle.alu.specs.declared.Adjusted.the-variants.{By, NoRow}
@@ -18,6 +18,11 @@ use Rattle.timers.specs.Clock.{written, cycles}
 use Rattle.timers.specs.declared.Control.{Control}
 use Rattle.timers.specs.declared.Counting.{Counting}
 use Rattle.timers.specs.declared.Moving.{Moving}
+use Rattle.machine.specs.State.{held, placed, withPc}
+use Rattle.machine.specs.Start.{standardOf}
+use Rattle.machine.specs.declared.Machine.{Machine}
+use Rattle.machine.specs.declared.Pins.{Pins}
+use Rattle.execute.specs.Execute.{Execution, executeOf}
 
 -- the outcome stores this value, and makes of the FLAGS byte f this FLAGS byte
 abbrev pub after : Outcome → ℕ → ℕ → ℕ → Bool
@@ -47,6 +52,23 @@ freshLoad divider pre0 t0 = written (registers 0x03 pre0 t0) (restingAt divider)
 abbrev pub endsIn : ℕ → ℕ → ℕ → ℕ → ℕ
 endsIn divider pre0 t0 n = cycles (settingOf (registers (kept 0x03) pre0 t0)) n (freshLoad divider pre0 t0) .ends0
 
+-- a new machine at a program counter, with v in R5; RP is 0, so R5 is working register 5
+abbrev pub machineAt : ℕ → ℕ → Machine
+machineAt pc v = placed (withPc standardOf pc) 0x05 v
+
+abbrev pub pins : Pins
+pins = record { port0 = 0xFF; port1 = 0xFF; port2 = 0xFF; port3 = 0xFF }
+
+-- its instruction, of a program with no data memory
+abbrev pub executed : List ℕ → Machine → Execution
+executed image m = executeOf pins image [] m
+
+-- DJNZ R5 on v, with a displacement of 10, leaves this in R5 and costs so much
+abbrev pub djnz : ℕ → ℕ → ℕ → Bool
+djnz v left cycles =
+    let x = executed (0x5A ∷ 0x10 ∷ []) (machineAt 0x0000 v) in
+    eqb (held (x .machine) 0x05) left && eqb (x .cycles) cycles
+
 -- every test holds
 abbrev pub all : List Bool → Bool
 all [] = true
@@ -72,8 +94,11 @@ examples =
     ∷ adjusts (daOf 0x3C 0x00) 0x60 0x42 0x00
     -- DECW 0000 = FFFF
     ∷ eqb (decwOf 0x0000 .value) 0xFFFF
-    -- bytes 8B FE at 0010 jump to 0010: the displacement FE, from the next instruction
-    ∷ eqb (movedBy 0x0012 (dispOf 0xFE)) 0x0010
+    -- DJNZ on 1 leaves 0, 10 cycles; on 0 leaves FF, 12 cycles
+    ∷ djnz 1 0x00 10
+    ∷ djnz 0 0xFF 12
+    -- bytes 8B FE at 0010 jump to 0010
+    ∷ eqb (executed (replicate 16 0xFF ++ (0x8B ∷ 0xFE ∷ [])) (machineAt 0x0010 0) .machine .pc) 0x0010
     -- P 3, N 2, fresh load, divider 0: 23 cycles no end, 24 one, 48 two
     ∷ eqb (endsIn 0 0x0D 0x02 23) 0
     ∷ eqb (endsIn 0 0x0D 0x02 24) 1
