@@ -45,7 +45,7 @@ use Rattle.deeds.specs.declared.Operands.{Operands}
 use Rattle.deeds.specs.declared.Transfer.{Transfer}
 use Rattle.deeds.specs.declared.Transfer.the-variants.{Dropped, ToRegister, ToMemory}
 use Rattle.deeds.specs.declared.Deed.{Deed}
-use Rattle.deeds.specs.declared.Deed.the-variants as to
+use Rattle.deeds.specs.declared.Deed.the-variants as deed
 
 abbrev pub FitTransfer : Transfer → Type 0
 FitTransfer Dropped = Unit {0}
@@ -53,20 +53,20 @@ FitTransfer (ToRegister a v) = (a < 256) × (v < 256)
 FitTransfer (ToMemory a v) = (a < 65536) × (v < 256)
 
 abbrev pub FitDeed : Deed → Type 0
-FitDeed to.Nothing = Unit {0}
-FitDeed (to.Move t) = FitTransfer t
-FitDeed (to.Store a o) = (a < 256) × ByteOutcome o
-FitDeed (to.StoreWord a o) = (a < 256) × WordFits o
-FitDeed (to.Test e) = ByteFlags e
-FitDeed (to.Block t r rr) = FitTransfer t × (r < 256) × (rr < 256)
-FitDeed (to.Push v) = v < 256
-FitDeed (to.Pop a v) = (a < 256) × (v < 256)
-FitDeed (to.Call a) = a < 65536
-FitDeed (to.Return a) = a < 65536
-FitDeed (to.ReturnFromInterrupt f a) = (f < 256) × (a < 65536)
-FitDeed (to.Jump taken a) = a < 65536
-FitDeed (to.Loop r v a) = (r < 256) × (v < 256) × (a < 65536)
-FitDeed (to.Interrupts on) = Unit {0}
+FitDeed deed.Nothing = Unit {0}
+FitDeed (deed.Move t) = FitTransfer t
+FitDeed (deed.Store a o) = (a < 256) × ByteOutcome o
+FitDeed (deed.StoreWord a o) = (a < 256) × WordFits o
+FitDeed (deed.Test e) = ByteFlags e
+FitDeed (deed.Block t r rr) = FitTransfer t × (r < 256) × (rr < 256)
+FitDeed (deed.Push v) = v < 256
+FitDeed (deed.Pop a v) = (a < 256) × (v < 256)
+FitDeed (deed.Call a) = a < 65536
+FitDeed (deed.Return a) = a < 65536
+FitDeed (deed.ReturnFromInterrupt f a) = (f < 256) × (a < 65536)
+FitDeed (deed.Jump taken a) = a < 65536
+FitDeed (deed.Loop r v taken a) = (r < 256) × (v < 256) × (a < 65536)
+FitDeed (deed.Interrupts on) = Unit {0}
 
 -- an instruction's bytes are bytes
 pub record ByteCode (i : Code) : Type 0 where

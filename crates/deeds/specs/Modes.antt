@@ -36,7 +36,7 @@ oneAt p m Work i = upperAt m (i .op)
 oneAt p m Reg i = registerAt m (i .first)
 oneAt p m Ind i = indirectAt p m (i .first)
 
--- a destination's address, with a register's address as source: what that reads
+-- a destination's address, and as source what the register at address a reads
 unfoldable pub fromRegister : Pins → Machine → ℕ → ℕ → Operands
 fromRegister p m dst a = record { dst = dst; src = readReg p m a }
 

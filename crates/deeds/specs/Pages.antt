@@ -1,10 +1,11 @@
--- What each page of chapter 5 has an instruction do, with everything read that it needs. What is written then, and in which order, is the
--- room `execute`'s. The machine is the one before, its program counter at the next instruction. Assumes nothing.
+-- What each page of chapter 5 has an instruction do, in the pages' order, with everything read that it needs: a deed. What is written
+-- then, and in which order, is the room `execute`'s. Throughout, m is the machine before the instruction, but with its program counter
+-- already at the next one; p are the pins, i the instruction's bytes. Assumes nothing.
 use mathlib.Core.Bool.{Bool, true, false, not}
 use mathlib.Core.List.{List}
 use Prim.Native.Nat.{ℕ, _+_, _%_}
 use lib.Dec.{eqb}
-use Rattle.word.specs.Fields.{upper, lower, wordOf}
+use Rattle.word.specs.Fields.{upper, wordOf}
 use Rattle.word.specs.Words.{dispOf, movedBy}
 use Rattle.alu.specs.FlagByte.{rcfOf, scfOf, ccfOf}
 use Rattle.alu.specs.Decimal.{daOf}
@@ -25,7 +26,7 @@ use Rattle.opcodes.specs.declared.Way.the-variants.{In, Out}
 use Rattle.opcodes.specs.declared.Target.{Target}
 use Rattle.opcodes.specs.declared.Target.the-variants.{Direct, Pair}
 use Rattle.machine.specs.Registers.{readReg}
-use Rattle.machine.specs.Addresses.{workingAt, workingIndirectAt, readPair}
+use Rattle.machine.specs.Addresses.{workingIndirectAt, readPair}
 use Rattle.machine.specs.Memory.{programByte, dataByte}
 use Rattle.machine.specs.Stack.{stackByte, isInside}
 use Rattle.machine.specs.declared.Machine.{Machine}
@@ -37,55 +38,21 @@ use Rattle.deeds.specs.declared.Transfer.{Transfer}
 use Rattle.deeds.specs.declared.Transfer.the-variants.{Dropped, ToRegister, ToMemory}
 use Rattle.deeds.specs.declared.Deed.{Deed}
 use Rattle.deeds.specs.declared.Planned.{Planned}
-use Rattle.deeds.specs.declared.Deed.the-variants as to
+use Rattle.deeds.specs.declared.Deed.the-variants as deed
 
--- ADC, ADD, AND, OR, SBC, SUB, XOR: the result goes to the destination
+-- a byte to the register at an address; no flags affected
+abbrev pub load : ℕ → ℕ → Deed
+load dst v = deed.Move (ToRegister dst v)
+
+-- ADC, ADD, AND, OR, SBC, SUB, XOR: dst <-- the result of dst and src
 unfoldable pub binaryDeed : Pins → Machine → binary.Binary → Two → Code → Deed
 binaryDeed p m b w i =
     let o = operandsOf p m w i in
-    to.Store (o .dst) (binaryOf b (readReg p m (o .dst)) (o .src) (flagsOf m))
+    deed.Store (o .dst) (binaryOf b (readReg p m (o .dst)) (o .src) (flagsOf m))
 
--- CP, TCM, TM: "store nothing"
-unfoldable pub testDeed : Pins → Machine → test.Test → Two → Code → Deed
-testDeed p m t w i =
-    let o = operandsOf p m w i in
-    to.Test (testOf t (readReg p m (o .dst)) (o .src))
-
--- COM, DEC, INC, RL, RLC, RR, RRC, SRA, SWAP
-unfoldable pub unaryDeed : Pins → Machine → unary.Unary → One → Code → Deed
-unaryDeed p m u w i =
-    let dst = oneAt p m w i in
-    to.Store dst (unaryOf u (readReg p m dst) (flagsOf m))
-
--- DECW, INCW: the pair's address drops its lowest bit, in a field as found in a register
-unfoldable pub pairedDeed : Pins → Machine → paired.Paired → One → Code → Deed
-pairedDeed p m d w i =
-    let dst = oneAt p m w i in
-    to.StoreWord dst (pairedOf d (readPair p m dst))
-
--- DA: the outcome of a row is stored, also where the row adds 00; "a combination in no row changes nothing, flags included (HOUSE)"
-unfoldable pub adjustDeed : ℕ → Adjusted → Deed
-adjustDeed dst (By o) = to.Store dst o
-adjustDeed dst NoRow = to.Nothing
-
-unfoldable pub daDeed : Pins → Machine → One → Code → Deed
-daDeed p m w i =
-    let dst = oneAt p m w i in
-    adjustDeed dst (daOf (readReg p m dst) (flagsOf m))
-
--- a byte to a register; no flags affected
-abbrev pub load : ℕ → ℕ → Deed
-load dst v = to.Move (ToRegister dst v)
-
--- LD: dst <-- src
-unfoldable pub ldDeed : Pins → Machine → Two → Code → Deed
-ldDeed p m w i =
-    let o = operandsOf p m w i in
-    load (o .dst) (o .src)
-
--- CLR: dst <-- 0, "without reading"
-unfoldable pub clrDeed : Pins → Machine → One → Code → Deed
-clrDeed p m w i = load (oneAt p m w i) 0
+-- CALL. The address is taken before anything is pushed.
+unfoldable pub callDeed : Pins → Machine → Target → Code → Deed
+callDeed p m t i = deed.Call (targetOf p m t i)
 
 -- CCF, RCF, SCF: "No other flags affected"
 unfoldable pub ccfDeed : Machine → Deed
@@ -97,75 +64,129 @@ rcfDeed m = load 0xFC (rcfOf (flagsOf m))
 unfoldable pub scfDeed : Machine → Deed
 scfDeed m = load 0xFC (scfOf (flagsOf m))
 
--- between the register at an address and program memory at another. "LDC and LDCI stores are dropped (HOUSE)."
-unfoldable pub programMove : List ℕ → Way → ℕ → ℕ → Transfer
-programMove image In x a = ToRegister x (programByte image a)
-programMove image Out x a = Dropped
+-- CLR: dst <-- 0
+unfoldable pub clrDeed : Pins → Machine → One → Code → Deed
+clrDeed p m w i = load (oneAt p m w i) 0
 
--- between the register at an address and data memory at another
-unfoldable pub dataMove : Pins → List ℕ → Machine → Way → ℕ → ℕ → Transfer
-dataMove p mem m In x a = ToRegister x (dataByte (m .kind) mem a)
-dataMove p mem m Out x a = ToMemory a (readReg p m x)
+-- COM, DEC, INC, RL, RLC, RR, RRC, SRA, SWAP: dst <-- the result of dst
+unfoldable pub unaryDeed : Pins → Machine → unary.Unary → One → Code → Deed
+unaryDeed p m u w i =
+    let dst = oneAt p m w i in
+    deed.Store dst (unaryOf u (readReg p m dst) (flagsOf m))
 
--- where LDC, LDCI, LDE and LDEI find the memory's address: in the pair that the lower nibble names, Irr
-abbrev pub pointedAt : Pins → Machine → Code → ℕ
-pointedAt p m i = readPair p m (lowerAt m (i .first))
+-- CP, TCM, TM: flags alone; "the destination location still contains its original value" (TM)
+unfoldable pub testDeed : Pins → Machine → test.Test → Two → Code → Deed
+testDeed p m t w i =
+    let o = operandsOf p m w i in
+    deed.Test (testOf t (readReg p m (o .dst)) (o .src))
 
--- and the register: it is the one that the upper nibble names, r; in a block transfer it has the register's address, Ir
-unfoldable pub ldcDeed : Pins → List ℕ → Machine → Way → Code → Deed
-ldcDeed p image m w i = to.Move (programMove image w (upperAt m (i .first)) (pointedAt p m i))
+-- DA: the outcome of a row is stored, also where the row adds 00; "a combination in no row changes nothing, flags included (HOUSE)"
+unfoldable pub adjustDeed : ℕ → Adjusted → Deed
+adjustDeed dst (By o) = deed.Store dst o
+adjustDeed dst NoRow = deed.Nothing
 
-unfoldable pub ldeDeed : Pins → List ℕ → Machine → Way → Code → Deed
-ldeDeed p mem m w i = to.Move (dataMove p mem m w (upperAt m (i .first)) (pointedAt p m i))
+unfoldable pub daDeed : Pins → Machine → One → Code → Deed
+daDeed p m w i =
+    let dst = oneAt p m w i in
+    adjustDeed dst (daOf (readReg p m dst) (flagsOf m))
 
-unfoldable pub ldciDeed : Pins → List ℕ → Machine → Way → Code → Deed
-ldciDeed p image m w i =
-    to.Block (programMove image w (workingIndirectAt p m (upper (i .first))) (pointedAt p m i)) (upperAt m (i .first)) (lowerAt m (i .first))
+-- DECW, INCW. The address is a field's (RR) or one found in a register (IR); `readPair` and `writePair` drop its lowest bit.
+unfoldable pub pairedDeed : Pins → Machine → paired.Paired → One → Code → Deed
+pairedDeed p m d w i =
+    let dst = oneAt p m w i in
+    deed.StoreWord dst (pairedOf d (readPair p m dst))
 
-unfoldable pub ldeiDeed : Pins → List ℕ → Machine → Way → Code → Deed
-ldeiDeed p mem m w i =
-    to.Block (dataMove p mem m w (workingIndirectAt p m (upper (i .first))) (pointedAt p m i)) (upperAt m (i .first)) (lowerAt m (i .first))
+-- DI, EI: IMR (7) <-- 0, IMR (7) <-- 1
+abbrev pub diDeed : Deed
+diDeed = deed.Interrupts false
 
--- POP: the byte on top of the stack
-unfoldable pub popDeed : Pins → List ℕ → Machine → One → Code → Deed
-popDeed p mem m w i = to.Pop (oneAt p m w i) (stackByte p m mem 0)
-
-unfoldable pub pushDeed : Pins → Machine → One → Code → Deed
-pushDeed p m w i = to.Push (readReg p m (oneAt p m w i))
-
--- CALL: the address is taken before anything is pushed
-unfoldable pub callDeed : Pins → Machine → Target → Code → Deed
-callDeed p m t i = to.Call (targetOf p m t i)
-
--- RET; "A pushed address has its high byte lower"
-unfoldable pub retDeed : Pins → List ℕ → Machine → Deed
-retDeed p mem m = to.Return (wordOf (stackByte p m mem 0) (stackByte p m mem 1))
-
--- IRET; "an interrupt's FLAGS lie below it"
-unfoldable pub iretDeed : Pins → List ℕ → Machine → Deed
-iretDeed p mem m = to.ReturnFromInterrupt (stackByte p m mem 0) (wordOf (stackByte p m mem 1) (stackByte p m mem 2))
-
--- whether the condition in the opcode's upper nibble holds
-abbrev pub conditionOf : Machine → Code → Bool
-conditionOf m i = holdsOf (upper (i .op)) (flagsOf m)
-
--- JP: conditional where the address is in the instruction
-unfoldable pub jpDeed : Pins → Machine → Target → Code → Deed
-jpDeed p m Direct i = to.Jump (conditionOf m i) (targetOf p m Direct i)
-jpDeed p m Pair i = to.Jump true (targetOf p m Pair i)
+abbrev pub eiDeed : Deed
+eiDeed = deed.Interrupts true
 
 -- "A displacement is -128 to 127 from the next instruction"
 abbrev pub relative : Machine → ℕ → ℕ
 relative m b = movedBy (m .pc) (dispOf b)
 
-unfoldable pub jrDeed : Machine → Code → Deed
-jrDeed m i = to.Jump (conditionOf m i) (relative m (i .first))
-
--- DJNZ: r <-- r - 1
+-- DJNZ: r <-- r - 1; if r is not 0, PC <-- PC + dst. "Flags and DJNZ's test go by the result, not by a reading back."
 unfoldable pub djnzDeed : Pins → Machine → Code → Deed
 djnzDeed p m i =
     let r = upperAt m (i .op) in
-    to.Loop r ((readReg p m r + 255) % 256) (relative m (i .first))
+    let result : ℕ = (readReg p m r + 255) % 256 in
+    deed.Loop r result (not (eqb result 0)) (relative m (i .first))
+
+-- IRET: FLAGS and PC from the stack; "an interrupt's FLAGS lie below" the address
+unfoldable pub iretDeed : Pins → List ℕ → Machine → Deed
+iretDeed p mem m = deed.ReturnFromInterrupt (stackByte p m mem 0) (wordOf (stackByte p m mem 1) (stackByte p m mem 2))
+
+-- whether the condition in the opcode's upper nibble holds
+abbrev pub conditionOf : Machine → Code → Bool
+conditionOf m i = holdsOf (upper (i .op)) (flagsOf m)
+
+-- JP: if cc is true, PC <-- dst; through a pair it is unconditional. (The page's "decremented by one" is not followed: see DECISIONS.)
+unfoldable pub jpDeed : Pins → Machine → Target → Code → Deed
+jpDeed p m Direct i = deed.Jump (conditionOf m i) (targetOf p m Direct i)
+jpDeed p m Pair i = deed.Jump true (targetOf p m Pair i)
+
+-- JR: if cc is true, PC <-- PC + dst
+unfoldable pub jrDeed : Machine → Code → Deed
+jrDeed m i = deed.Jump (conditionOf m i) (relative m (i .first))
+
+-- LD: dst <-- src
+unfoldable pub ldDeed : Pins → Machine → Two → Code → Deed
+ldDeed p m w i =
+    let o = operandsOf p m w i in
+    load (o .dst) (o .src)
+
+-- LDC, LDCI, LDE, LDEI, whose boxes are OPC dst src and OPC src dst: whichever way, the register is named by the upper nibble, and the
+-- lower one names the pair that has the memory's address, Irr
+abbrev pub pointedAt : Pins → Machine → Code → ℕ
+pointedAt p m i = readPair p m (lowerAt m (i .first))
+
+-- between the register at x and program memory at a. "LDC and LDCI stores are dropped (HOUSE)."
+unfoldable pub programMove : List ℕ → Way → ℕ → ℕ → Transfer
+programMove image In x a = ToRegister x (programByte image a)
+programMove image Out x a = Dropped
+
+-- between the register at x and data memory at a
+unfoldable pub dataMove : Pins → List ℕ → Machine → Way → ℕ → ℕ → Transfer
+dataMove p mem m In x a = ToRegister x (dataByte (m .kind) mem a)
+dataMove p mem m Out x a = ToMemory a (readReg p m x)
+
+-- LDC and LDE: the register named is the operand, r
+unfoldable pub ldcDeed : Pins → List ℕ → Machine → Way → Code → Deed
+ldcDeed p image m w i = deed.Move (programMove image w (upperAt m (i .first)) (pointedAt p m i))
+
+unfoldable pub ldeDeed : Pins → List ℕ → Machine → Way → Code → Deed
+ldeDeed p mem m w i = deed.Move (dataMove p mem m w (upperAt m (i .first)) (pointedAt p m i))
+
+-- LDCI and LDEI: the register named has the operand's address, Ir. Then r <-- r + 1 and rr <-- rr + 1.
+unfoldable pub ldciDeed : Pins → List ℕ → Machine → Way → Code → Deed
+ldciDeed p image m w i =
+    deed.Block (programMove image w (workingIndirectAt p m (upper (i .first))) (pointedAt p m i)) (upperAt m (i .first)) (lowerAt m (i .first))
+
+unfoldable pub ldeiDeed : Pins → List ℕ → Machine → Way → Code → Deed
+ldeiDeed p mem m w i =
+    deed.Block (dataMove p mem m w (workingIndirectAt p m (upper (i .first))) (pointedAt p m i)) (upperAt m (i .first)) (lowerAt m (i .first))
+
+-- NOP: "No action is performed by this instruction."
+abbrev pub nopDeed : Deed
+nopDeed = deed.Nothing
+
+-- POP: dst <-- @SP
+unfoldable pub popDeed : Pins → List ℕ → Machine → One → Code → Deed
+popDeed p mem m w i = deed.Pop (oneAt p m w i) (stackByte p m mem 0)
+
+-- PUSH: @SP <-- src
+unfoldable pub pushDeed : Pins → Machine → One → Code → Deed
+pushDeed p m w i = deed.Push (readReg p m (oneAt p m w i))
+
+-- RET: PC <-- @SP; "A pushed address has its high byte lower"
+unfoldable pub retDeed : Pins → List ℕ → Machine → Deed
+retDeed p mem m = deed.Return (wordOf (stackByte p m mem 0) (stackByte p m mem 1))
+
+-- SRP: RP <-- src, by the register's rule: its low nibble "always reads 0 (HOUSE)"
+abbrev pub srpDeed : Code → Deed
+srpDeed i = load 0xFD (i .first)
 
 -- all of chapter 5
 unfoldable pub deedOf : Pins → List ℕ → List ℕ → Machine → Kind → Code → Deed
@@ -177,9 +198,9 @@ deedOf p image mem m (Call t) i = callDeed p m t i
 deedOf p image mem m Ccf i = ccfDeed m
 deedOf p image mem m (Clr w) i = clrDeed p m w i
 deedOf p image mem m (Da w) i = daDeed p m w i
-deedOf p image mem m Di i = to.Interrupts false
+deedOf p image mem m Di i = diDeed
 deedOf p image mem m Djnz i = djnzDeed p m i
-deedOf p image mem m Ei i = to.Interrupts true
+deedOf p image mem m Ei i = eiDeed
 deedOf p image mem m Iret i = iretDeed p mem m
 deedOf p image mem m (Jp t) i = jpDeed p m t i
 deedOf p image mem m Jr i = jrDeed m i
@@ -188,34 +209,35 @@ deedOf p image mem m (Ldc w) i = ldcDeed p image m w i
 deedOf p image mem m (Ldci w) i = ldciDeed p image m w i
 deedOf p image mem m (Lde w) i = ldeDeed p mem m w i
 deedOf p image mem m (Ldei w) i = ldeiDeed p mem m w i
-deedOf p image mem m Nop i = to.Nothing
+deedOf p image mem m Nop i = nopDeed
 deedOf p image mem m (Pop w) i = popDeed p mem m w i
 deedOf p image mem m (Push w) i = pushDeed p m w i
 deedOf p image mem m Rcf i = rcfDeed m
 deedOf p image mem m Ret i = retDeed p mem m
 deedOf p image mem m Scf i = scfDeed m
-deedOf p image mem m Srp i = load 0xFD (i .first)
+deedOf p image mem m Srp i = srpDeed i
 
--- which of two figures in the map a deed costs: the first where the jump is taken, or the stack inside before anything is written
-unfoldable pub firstOf : Machine → Deed → Bool
-firstOf m to.Nothing = true
-firstOf m (to.Move t) = true
-firstOf m (to.Store dst o) = true
-firstOf m (to.StoreWord dst o) = true
-firstOf m (to.Test e) = true
-firstOf m (to.Block t r rr) = true
-firstOf m (to.Push v) = isInside m
-firstOf m (to.Pop dst v) = true
-firstOf m (to.Call a) = true
-firstOf m (to.Return a) = true
-firstOf m (to.ReturnFromInterrupt flags a) = true
-firstOf m (to.Jump taken a) = taken
-firstOf m (to.Loop r v a) = not (eqb v 0)
-firstOf m (to.Interrupts on) = true
+-- which of two figures in the map a deed costs, "Taken DJNZ, JR and JP cc 12, else 10. PUSH R 10 with internal stack, 12 external": true for
+-- the first. The stack's kind is that before anything is written. Where a cell has one figure, nothing hangs on it.
+unfoldable pub outcomeOf : Machine → Deed → Bool
+outcomeOf m deed.Nothing = true
+outcomeOf m (deed.Move t) = true
+outcomeOf m (deed.Store dst o) = true
+outcomeOf m (deed.StoreWord dst o) = true
+outcomeOf m (deed.Test e) = true
+outcomeOf m (deed.Block t r rr) = true
+outcomeOf m (deed.Push v) = isInside m
+outcomeOf m (deed.Pop dst v) = true
+outcomeOf m (deed.Call a) = true
+outcomeOf m (deed.Return a) = true
+outcomeOf m (deed.ReturnFromInterrupt flags a) = true
+outcomeOf m (deed.Jump taken a) = taken
+outcomeOf m (deed.Loop r v taken a) = taken
+outcomeOf m (deed.Interrupts on) = true
 
--- for the code: a deed with the cycles of its kind
+-- for the code: a deed with the cycles of its kind, which are the map's (`cycles-by-kind`)
 abbrev pub planOf : Deed → ℕ → Planned
 planOf d cycles = record { deed = d; cycles = cycles }
 
 abbrev pub plannedOf : Machine → Kind → Deed → Planned
-plannedOf m k d = planOf d (costOf k (firstOf m d))
+plannedOf m k d = planOf d (costOf k (outcomeOf m d))

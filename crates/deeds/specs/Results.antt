@@ -1,4 +1,5 @@
--- The results of the pages that differ in nothing else. `read` is the FLAGS byte from before anything is written. Assumes nothing.
+-- The results of the pages that read and store alike, of values: dst is what the destination reads. `read` is the FLAGS byte from before
+-- anything is written. Assumes nothing.
 use Prim.Native.Nat.{ℕ}
 use Rattle.alu.specs.Arithmetic.{addOf, adcOf, subOf, sbcOf, cpOf, incOf, decOf, incwOf, decwOf}
 use Rattle.alu.specs.Logical.{andOf, orOf, xorOf, comOf, tmOf, tcmOf}

@@ -8,7 +8,7 @@ pub mod modes;
 pub mod pages;
 mod results;
 
-// An instruction's bytes: the opcode and the two that follow it.
+// The opcode and the two bytes that follow it. Of these an instruction looks only at those that are its own.
 pub struct Code {
     pub op: u8,
     pub first: u8,
@@ -45,7 +45,7 @@ pub enum Deed {
     StoreWord(u8, WordOutcome),
     // the flags alone
     Test(Flags),
-    // a transfer, and then one more to a register and to a pair
+    // a transfer, and then 1 is added to a register and to a pair
     Block(Transfer, u8, u8),
     Push(u8),
     // to the register at an address, the byte that is popped
@@ -56,8 +56,8 @@ pub enum Deed {
     ReturnFromInterrupt(u8, u16),
     // whether the jump is taken, and where to
     Jump(bool, u16),
-    // to the register at an address, its byte less one; and where to, unless that is zero
-    Loop(u8, u8, u16),
+    // to the register at an address, its byte less one; whether the jump is taken, and where to
+    Loop(u8, u8, bool, u16),
     // bit 7 of IMR
     Interrupts(bool),
 }

@@ -1,4 +1,5 @@
-// What each page of chapter 5 has an instruction do. `regs, k` is the machine before, its program counter at the next instruction.
+// What each page of chapter 5 has an instruction do. `regs, k` is the machine before, but with its program counter already at the next
+// instruction. Nothing here can store: the file is lent to be read.
 use crate::Code;
 use crate::Deed;
 use crate::Planned;
@@ -35,9 +36,9 @@ fn binary(regs: &[u8; 256], k: Core, pins: Pins, b: Binary, w: Two, i: Code) -> 
 {
     let c = crate::modes::two(regs, k, pins, w, i);
     let o = c.operands;
-    let dst = machine::registers::read(regs, k, pins, o.dst);
+    let was = machine::registers::read(regs, k, pins, o.dst);
     let read = crate::modes::flags(regs, k);
-    let result = crate::results::binary(b, dst, o.src, read);
+    let result = crate::results::binary(b, was, o.src, read);
     plan(Deed::Store(o.dst, result), c.cycles)
 }
 
@@ -47,8 +48,8 @@ fn test(regs: &[u8; 256], k: Core, pins: Pins, t: Test, w: Two, i: Code) -> Plan
 {
     let c = crate::modes::two(regs, k, pins, w, i);
     let o = c.operands;
-    let dst = machine::registers::read(regs, k, pins, o.dst);
-    let flags = crate::results::test(t, dst, o.src);
+    let was = machine::registers::read(regs, k, pins, o.dst);
+    let flags = crate::results::test(t, was, o.src);
     plan(Deed::Test(flags), c.cycles)
 }
 
@@ -73,9 +74,9 @@ fn unary(regs: &[u8; 256], k: Core, pins: Pins, u: Unary, w: One, i: Code) -> Pl
     ensures { λ r. ⌜ r ≡ plannedOf (whole (now (regs .entry)) k) (Kind.Unary u w) (unaryDeed pins (whole (now (regs .entry)) k) u w i) ⌝ }
 {
     let a = crate::modes::one(regs, k, pins, w, i);
-    let dst = machine::registers::read(regs, k, pins, a);
+    let was = machine::registers::read(regs, k, pins, a);
     let read = crate::modes::flags(regs, k);
-    let result = crate::results::unary(u, dst, read);
+    let result = crate::results::unary(u, was, read);
     plan(Deed::Store(a, result), unary_cycles(u))
 }
 
@@ -84,12 +85,12 @@ fn paired(regs: &[u8; 256], k: Core, pins: Pins, p: Paired, w: One, i: Code) -> 
     ensures { λ r. ⌜ r ≡ plannedOf (whole (now (regs .entry)) k) (Kind.Paired p w) (pairedDeed pins (whole (now (regs .entry)) k) p w i) ⌝ }
 {
     let a = crate::modes::one(regs, k, pins, w, i);
-    let dst = machine::addresses::read_pair(regs, k, pins, a);
-    let result = crate::results::paired(p, dst);
+    let was = machine::addresses::read_pair(regs, k, pins, a);
+    let result = crate::results::paired(p, was);
     plan(Deed::StoreWord(a, result), 10)
 }
 
-// What DA makes of the register at an address.
+// DA's outcome as a deed.
 fn adjust(a: u8, x: Adjusted) -> Deed
     ensures { λ r. ⌜ r ≡ adjustDeed a x ⌝ }
 {
@@ -103,9 +104,9 @@ fn da(regs: &[u8; 256], k: Core, pins: Pins, w: One, i: Code) -> Planned
     ensures { λ r. ⌜ r ≡ plannedOf (whole (now (regs .entry)) k) (Kind.Da w) (daDeed pins (whole (now (regs .entry)) k) w i) ⌝ }
 {
     let a = crate::modes::one(regs, k, pins, w, i);
-    let dst = machine::registers::read(regs, k, pins, a);
+    let was = machine::registers::read(regs, k, pins, a);
     let read = crate::modes::flags(regs, k);
-    let x = alu::decimal::da(dst, read);
+    let x = alu::decimal::da(was, read);
     plan(adjust(a, x), 8)
 }
 
@@ -244,7 +245,7 @@ fn either(first: bool, a: u8, b: u8) -> u8
     if first { a } else { b }
 }
 
-// PUSH, by the kind of stack before anything is written.
+// PUSH, by the kind of stack before anything is written. No opcode has PUSH r.
 fn push_cycles(w: One, inside: bool) -> u8
     ensures { λ r. ⌜ r ≡ pushCost w inside ⌝ }
 {
@@ -331,7 +332,8 @@ fn djnz(regs: &[u8; 256], k: Core, pins: Pins, i: Code) -> Planned
     let v = machine::registers::read(regs, k, pins, r);
     let less = std::num::wrapping_add_u8(v, 255);
     let to = word::moved(k.pc, i.first);
-    plan(Deed::Loop(r, less, to), jump_cycles(less != 0))
+    let taken = less != 0;
+    plan(Deed::Loop(r, less, taken, to), jump_cycles(taken))
 }
 
 // What an instruction of this kind is to do, and its cycles.

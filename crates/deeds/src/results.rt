@@ -1,4 +1,4 @@
-// The results of the pages that differ in nothing else. `read` is the FLAGS byte from before anything is written.
+// The results of the pages that read and store alike. `read` is the FLAGS byte from before anything is written.
 use alu::Flags;
 use alu::Outcome;
 use alu::WordOutcome;

@@ -28,13 +28,13 @@ use Rattle.machine.specs.Registers.{readReg, writeReg}
 use Rattle.machine.specs.Addresses.{workingAt}
 use Rattle.machine.specs.Memory.{programByte}
 use Rattle.machine.specs.Start.{resetPlaces, newOf, standardOf}
-use Rattle.deeds.specs.Pages.{djnzDeed, jrDeed, deedOf, firstOf}
+use Rattle.deeds.specs.Pages.{djnzDeed, jrDeed, deedOf, outcomeOf}
 use Rattle.execute.specs.Doing.{jumped, looped, doneOf}
 use Rattle.execute.specs.Execute.{codeAt, performOf, executeAs, executeOf}
 use Rattle.examples.specs.Examples.{all, examples, resting, restingAt, registers, freshLoad, endsIn}
 
 pub examples-hold : T (all examples)
-unfolding examples laid packed addOf additionOf subOf subtractionOf differenceOf incOf decwOf sumOverflow differenceOverflow andOf logicFlags rlOf sraOf rotateFlags daOf byRows added afterAddition afterSubtraction dispOf movedBy iter latch orHighest setupOf dividerMovesT1 edgesMoveT1 settingOf kept tick ticked timerWritten endOf both cycle cycles toutWritten written heldIn placedIn placed withPc resetPlaces newOf standardOf readReg writeReg workingAt programByte entryOf opcodeMap lengthOf cyclesOf cycleMap holdsOf djnzDeed jrDeed deedOf firstOf jumped looped doneOf codeAt performOf executeAs executeOf
+unfolding examples laid packed addOf additionOf subOf subtractionOf differenceOf incOf decwOf sumOverflow differenceOverflow andOf logicFlags rlOf sraOf rotateFlags daOf byRows added afterAddition afterSubtraction dispOf movedBy iter latch orHighest setupOf dividerMovesT1 edgesMoveT1 settingOf kept tick ticked timerWritten endOf both cycle cycles toutWritten written heldIn placedIn placed withPc resetPlaces newOf standardOf readReg writeReg workingAt programByte entryOf opcodeMap lengthOf cyclesOf cycleMap holdsOf djnzDeed jrDeed deedOf outcomeOf jumped looped doneOf codeAt performOf executeAs executeOf
 examples-hold = tt
 
 -- P 1, N 1, fresh load: by the formula, as the longest span is too long to be computed cycle by cycle

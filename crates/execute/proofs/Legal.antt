@@ -35,7 +35,7 @@ use Rattle.deeds.specs.declared.Code.{Code}
 use Rattle.deeds.specs.declared.Transfer.{Transfer}
 use Rattle.deeds.specs.declared.Transfer.the-variants.{Dropped, ToRegister, ToMemory}
 use Rattle.deeds.specs.declared.Deed.{Deed}
-use Rattle.deeds.specs.declared.Deed.the-variants as to
+use Rattle.deeds.specs.declared.Deed.the-variants as deed
 use Rattle.deeds.proofs.Fits.{FitTransfer, FitDeed, ByteCode, AllRead, deed-fits}
 use Rattle.execute.specs.Doing.{flagged, storedAt, wordStoredAt, transferred, countedUp, pairCountedUp, blockMoved, popped, returned, interruptsTo, interruptReturned, called, jumped, looped, doneOf}
 use Rattle.execute.specs.Execute.{Execution, codeAt, performOf, executeAs, executeOf}
@@ -82,21 +82,21 @@ jumped-legal taken to l h = by-test Legal taken (λ t. pc-legal to l h) (λ t. l
 -- a deed done
 pub done-legal : (p : Pins) (m : Machine) (d : Deed) → Legal m → FitDeed d → Legal (doneOf p m d .machine)
 unfolding doneOf storedAt wordStoredAt blockMoved popped returned interruptReturned called looped
-done-legal p m to.Nothing l f = l
-done-legal p m (to.Move t) l f = transfer-legal t l f
-done-legal p m (to.Store dst o) l f = flagged-legal (o .flags) (write-legal l dst (o .value) (f .0) (f .1 .0)) (f .1 .1)
-done-legal p m (to.StoreWord dst o) l f = flagged-legal (o .flags) (pair-legal dst (o .value) l (f .0) (f .1 .0)) (f .1 .1)
-done-legal p m (to.Test e) l f = flagged-legal e l f
-done-legal p m (to.Block t r rr) l f = pair-counted-legal p rr (counted-legal p r (transfer-legal t l (f .0)) (f .1)) (f .2)
-done-legal p m (to.Push v) l f = pushed-legal (One v) l (f, tt)
-done-legal p m (to.Pop dst v) l f = write-legal (raised-legal 1 l) dst v (f .0) (f .1)
-done-legal p m (to.Call a) l f =
+done-legal p m deed.Nothing l f = l
+done-legal p m (deed.Move t) l f = transfer-legal t l f
+done-legal p m (deed.Store dst o) l f = flagged-legal (o .flags) (write-legal l dst (o .value) (f .0) (f .1 .0)) (f .1 .1)
+done-legal p m (deed.StoreWord dst o) l f = flagged-legal (o .flags) (pair-legal dst (o .value) l (f .0) (f .1 .0)) (f .1 .1)
+done-legal p m (deed.Test e) l f = flagged-legal e l f
+done-legal p m (deed.Block t r rr) l f = pair-counted-legal p rr (counted-legal p r (transfer-legal t l (f .0)) (f .1)) (f .2)
+done-legal p m (deed.Push v) l f = pushed-legal (One v) l (f, tt)
+done-legal p m (deed.Pop dst v) l f = write-legal (raised-legal 1 l) dst v (f .0) (f .1)
+done-legal p m (deed.Call a) l f =
     pc-legal a (pushed-legal (Two (highByte (m .pc)) (lowByte (m .pc))) l (omega (arith, l .pc-word), (omega arith, tt))) f
-done-legal p m (to.Return a) l f = pc-legal a (raised-legal 2 l) f
-done-legal p m (to.ReturnFromInterrupt flags a) l f = interrupts-legal true (pc-legal a (any-may flags (raised-legal 3 l) (f .0)) (f .1))
-done-legal p m (to.Jump taken a) l f = jumped-legal taken a l f
-done-legal p m (to.Loop r v a) l f = jumped-legal (not (eqb v 0)) a (write-legal l r v (f .0) (f .1)) (f .2)
-done-legal p m (to.Interrupts on) l f = interrupts-legal on l
+done-legal p m (deed.Return a) l f = pc-legal a (raised-legal 2 l) f
+done-legal p m (deed.ReturnFromInterrupt flags a) l f = interrupts-legal true (pc-legal a (any-may flags (raised-legal 3 l) (f .0)) (f .1))
+done-legal p m (deed.Jump taken a) l f = jumped-legal taken a l f
+done-legal p m (deed.Loop r v taken a) l f = jumped-legal taken a (write-legal l r v (f .0) (f .1)) (f .2)
+done-legal p m (deed.Interrupts on) l f = interrupts-legal on l
 
 -- what is to be stored in data memory
 abbrev pub FitStores : Stores → Type 0
@@ -115,20 +115,20 @@ transfer-fits m (ToMemory a v) f = (f .0, (f .1, tt))
 
 pub done-fits : (p : Pins) (m : Machine) (d : Deed) → Legal m → FitDeed d → FitStores (doneOf p m d .stores)
 unfolding doneOf blockMoved called
-done-fits p m to.Nothing l f = tt
-done-fits p m (to.Move t) l f = transfer-fits m t f
-done-fits p m (to.Store dst o) l f = tt
-done-fits p m (to.StoreWord dst o) l f = tt
-done-fits p m (to.Test e) l f = tt
-done-fits p m (to.Block t r rr) l f = transfer-fits m t (f .0)
-done-fits p m (to.Push v) l f = pushed-fits m (One v) (f, tt)
-done-fits p m (to.Pop dst v) l f = tt
-done-fits p m (to.Call a) l f = pushed-fits m (Two (highByte (m .pc)) (lowByte (m .pc))) (omega (arith, l .pc-word), (omega arith, tt))
-done-fits p m (to.Return a) l f = tt
-done-fits p m (to.ReturnFromInterrupt flags a) l f = tt
-done-fits p m (to.Jump taken a) l f = tt
-done-fits p m (to.Loop r v a) l f = tt
-done-fits p m (to.Interrupts on) l f = tt
+done-fits p m deed.Nothing l f = tt
+done-fits p m (deed.Move t) l f = transfer-fits m t f
+done-fits p m (deed.Store dst o) l f = tt
+done-fits p m (deed.StoreWord dst o) l f = tt
+done-fits p m (deed.Test e) l f = tt
+done-fits p m (deed.Block t r rr) l f = transfer-fits m t (f .0)
+done-fits p m (deed.Push v) l f = pushed-fits m (One v) (f, tt)
+done-fits p m (deed.Pop dst v) l f = tt
+done-fits p m (deed.Call a) l f = pushed-fits m (Two (highByte (m .pc)) (lowByte (m .pc))) (omega (arith, l .pc-word), (omega arith, tt))
+done-fits p m (deed.Return a) l f = tt
+done-fits p m (deed.ReturnFromInterrupt flags a) l f = tt
+done-fits p m (deed.Jump taken a) l f = tt
+done-fits p m (deed.Loop r v taken a) l f = tt
+done-fits p m (deed.Interrupts on) l f = tt
 
 code-bytes : (image : List ℕ) (pc : ℕ) → AllRead image → ByteCode (codeAt image pc)
 unfolding codeAt

@@ -1,7 +1,6 @@
 -- What is written when a deed is done, and in which order (01 "Instructions"). Assumes nothing.
-use mathlib.Core.Bool.{Bool, true, not}
+use mathlib.Core.Bool.{Bool, true}
 use Prim.Native.Nat.{ℕ, _+_, _%_}
-use lib.Dec.{eqb}
 use Rattle.word.specs.Choose.{pick}
 use Rattle.word.specs.Fields.{highByte, lowByte}
 use Rattle.word.specs.Words.{plus}
@@ -24,7 +23,7 @@ use Rattle.deeds.specs.Modes.{flagsOf}
 use Rattle.deeds.specs.declared.Transfer.{Transfer}
 use Rattle.deeds.specs.declared.Transfer.the-variants.{Dropped, ToRegister, ToMemory}
 use Rattle.deeds.specs.declared.Deed.{Deed}
-use Rattle.deeds.specs.declared.Deed.the-variants as to
+use Rattle.deeds.specs.declared.Deed.the-variants as deed
 
 -- the affected flags, on the FLAGS byte that is in place by then
 unfoldable pub flagged : Machine → Flags → Machine
@@ -37,20 +36,17 @@ storedAt m dst o = flagged (writeReg m dst (o .value)) (o .flags)
 unfoldable pub wordStoredAt : Machine → ℕ → WordOutcome → Machine
 wordStoredAt m dst o = flagged (writePair m dst (o .value)) (o .flags)
 
--- a machine, and nothing for data memory
-abbrev pub still : Machine → Stacked
-still m = record { machine = m; stores = Nothing }
+-- a machine, and nothing to be stored in data memory
+abbrev pub noStores : Machine → Stacked
+noStores m = record { machine = m; stores = Nothing }
 
-abbrev pub stillCore : Core → Pushed
-stillCore k = record { k = k; stores = Nothing }
-
--- the machine in it as f makes it
+-- f done to the machine; the stores stay
 abbrev pub then : (Machine → Machine) → Stacked → Stacked
 then f s = record { machine = f (s .machine); stores = s .stores }
 
 unfoldable pub transferred : Machine → Transfer → Stacked
-transferred m Dropped = still m
-transferred m (ToRegister a v) = still (writeReg m a v)
+transferred m Dropped = noStores m
+transferred m (ToRegister a v) = noStores (writeReg m a v)
 transferred m (ToMemory a v) = record { machine = m; stores = At a (One v) }
 
 -- "add one to what r, then the pair, reads as by then, modulo 256 and 65,536 (HOUSE)"
@@ -71,10 +67,11 @@ popped m dst v = writeReg (raised m 1) dst v
 unfoldable pub returned : Machine → ℕ → Machine
 returned m to = withPc (raised m 2) to
 
--- IMR (7) <-- 1 or 0: EI, DI, IRET, a grant. Its other bits stay.
+-- IMR (7) <-- 1 or 0: EI, DI, IRET. Its other bits stay.
 unfoldable pub interruptsTo : Machine → Bool → Machine
 interruptsTo m on = placed m 0xFB (held m 0xFB % 128 + bitsIf on 0x80)
 
+-- IRET: FLAGS <-- @SP, PC <-- @SP, IMR (7) <-- 1, with SP written first
 unfoldable pub interruptReturned : Machine → ℕ → ℕ → Machine
 interruptReturned m flags to = interruptsTo (withPc (placed (raised m 3) 0xFC flags) to) true
 
@@ -85,23 +82,27 @@ called m to = then (λ n. withPc n to) (pushed m (Two (highByte (m .pc)) (lowByt
 unfoldable pub jumped : Machine → Bool → ℕ → Machine
 jumped m taken to = pick taken (withPc m to) m
 
--- DJNZ: its test goes "by the result, not by a reading back"
-unfoldable pub looped : Machine → ℕ → ℕ → ℕ → Machine
-looped m r v to = jumped (writeReg m r v) (not (eqb v 0)) to
+-- DJNZ stores, and then jumps
+unfoldable pub looped : Machine → ℕ → ℕ → Bool → ℕ → Machine
+looped m r v taken to = jumped (writeReg m r v) taken to
 
 -- a deed done
 unfoldable pub doneOf : Pins → Machine → Deed → Stacked
-doneOf p m to.Nothing = still m
-doneOf p m (to.Move t) = transferred m t
-doneOf p m (to.Store dst o) = still (storedAt m dst o)
-doneOf p m (to.StoreWord dst o) = still (wordStoredAt m dst o)
-doneOf p m (to.Test e) = still (flagged m e)
-doneOf p m (to.Block t r rr) = blockMoved p m t r rr
-doneOf p m (to.Push v) = pushed m (One v)
-doneOf p m (to.Pop dst v) = still (popped m dst v)
-doneOf p m (to.Call a) = called m a
-doneOf p m (to.Return a) = still (returned m a)
-doneOf p m (to.ReturnFromInterrupt flags a) = still (interruptReturned m flags a)
-doneOf p m (to.Jump taken a) = still (jumped m taken a)
-doneOf p m (to.Loop r v a) = still (looped m r v a)
-doneOf p m (to.Interrupts on) = still (interruptsTo m on)
+doneOf p m deed.Nothing = noStores m
+doneOf p m (deed.Move t) = transferred m t
+doneOf p m (deed.Store dst o) = noStores (storedAt m dst o)
+doneOf p m (deed.StoreWord dst o) = noStores (wordStoredAt m dst o)
+doneOf p m (deed.Test e) = noStores (flagged m e)
+doneOf p m (deed.Block t r rr) = blockMoved p m t r rr
+doneOf p m (deed.Push v) = pushed m (One v)
+doneOf p m (deed.Pop dst v) = noStores (popped m dst v)
+doneOf p m (deed.Call a) = called m a
+doneOf p m (deed.Return a) = noStores (returned m a)
+doneOf p m (deed.ReturnFromInterrupt flags a) = noStores (interruptReturned m flags a)
+doneOf p m (deed.Jump taken a) = noStores (jumped m taken a)
+doneOf p m (deed.Loop r v taken a) = noStores (looped m r v taken a)
+doneOf p m (deed.Interrupts on) = noStores (interruptsTo m on)
+
+-- for the code: a machine's rest, and nothing to be stored
+abbrev pub noStoresBeside : Core → Pushed
+noStoresBeside k = record { k = k; stores = Nothing }

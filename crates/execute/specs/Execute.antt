@@ -9,40 +9,36 @@ use Rattle.opcodes.specs.declared.Entry.{Entry}
 use Rattle.opcodes.specs.declared.Entry.the-variants.{Blank, Of}
 use Rattle.opcodes.specs.declared.Kind.{Kind}
 use Rattle.machine.specs.State.{whole, withPc}
-use Rattle.machine.specs.Memory.{programByte}
-use Rattle.machine.specs.Stack.{Stacked}
+use Rattle.machine.specs.Memory.{programByte, storedIn}
 use Rattle.machine.specs.declared.Machine.{Machine}
 use Rattle.machine.specs.declared.Core.{Core}
 use Rattle.machine.specs.declared.Pins.{Pins}
 use Rattle.machine.specs.declared.Stores.{Stores}
 use Rattle.machine.specs.declared.Stores.the-variants.{Nothing}
-use Rattle.deeds.specs.Pages.{deedOf, firstOf}
+use Rattle.deeds.specs.Pages.{deedOf, outcomeOf}
 use Rattle.deeds.specs.declared.Code.{Code}
 use Rattle.deeds.specs.declared.Deed.{Deed}
 use Rattle.execute.specs.Doing.{doneOf}
 use Rattle.execute.specs.declared.Executed.{Executed}
 
--- what an instruction comes to: 0 or a refusal's number, its cycles, what is to be stored in data memory (`storedIn` of the room `machine`
--- says what that makes of it), the machine
+-- what an instruction comes to: 0 or a refusal's number, its cycles, what is to be stored in data memory, the machine
 pub record Execution : Type 0 where
   pub refusal : ℕ
   pub cycles : ℕ
   pub stores : Stores
   pub machine : Machine
 
-abbrev pub executionOf : List ℕ → Executed → Execution
-executionOf file x = record { refusal = x .refusal; cycles = x .cycles; stores = x .stores; machine = whole file (x .k) }
+-- and data memory after it
+abbrev pub memoryAfter : Machine → List ℕ → Execution → List ℕ
+memoryAfter m mem x = storedIn (m .kind) mem (x .stores)
 
--- the bytes at the program counter, "modulo 65,536 in every fetch"
+-- the bytes at the program counter, which "is modulo 65,536"
 unfoldable pub codeAt : List ℕ → ℕ → Code
 codeAt image pc = record { op = programByte image pc; first = programByte image (plus pc 1); second = programByte image (plus pc 2) }
 
 -- "opcode undefined": 5, "nothing changed"
 abbrev pub refusedOf : Machine → Execution
 refusedOf m = record { refusal = opcodeUndefined; cycles = 0; stores = Nothing; machine = m }
-
-abbrev pub refused : Core → Executed
-refused k = record { refusal = opcodeUndefined; cycles = 0; stores = Nothing; k = k }
 
 -- the machine at the next instruction
 abbrev pub nextOf : Machine → Code → Machine
@@ -51,7 +47,7 @@ nextOf m i = withPc m (plus (m .pc) (lengthOf (i .op)))
 -- a deed of an instruction: its cycles by the map, and what it does
 abbrev pub costing : ℕ → Pins → Machine → Deed → Execution
 costing op p m d =
-    record { refusal = 0; cycles = cyclesOf op (firstOf m d); stores = doneOf p m d .stores; machine = doneOf p m d .machine }
+    record { refusal = 0; cycles = cyclesOf op (outcomeOf m d); stores = doneOf p m d .stores; machine = doneOf p m d .machine }
 
 -- an instruction of this kind
 unfoldable pub performOf : Pins → List ℕ → List ℕ → Machine → Kind → Code → Execution
@@ -66,3 +62,10 @@ unfoldable pub executeOf : Pins → List ℕ → List ℕ → Machine → Execut
 executeOf p image mem m =
     let i = codeAt image (m .pc) in
     executeAs p image mem m (entryOf (i .op)) i
+
+-- for the code: the same beside a lent file
+abbrev pub executionOf : List ℕ → Executed → Execution
+executionOf file x = record { refusal = x .refusal; cycles = x .cycles; stores = x .stores; machine = whole file (x .k) }
+
+abbrev pub refused : Core → Executed
+refused k = record { refusal = opcodeUndefined; cycles = 0; stores = Nothing; k = k }

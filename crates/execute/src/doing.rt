@@ -14,7 +14,7 @@ ghost use Prim.Native.Nat.{_≤_};
 ghost use Rattle.machine.specs.State.{whole};
 ghost use Rattle.machine.specs.Ports.{bitsIf};
 ghost use Rattle.machine.specs.Stack.{stackedOf, pushed};
-ghost use Rattle.execute.specs.Doing.{flagged, storedAt, wordStoredAt, stillCore, transferred, countedUp, pairCountedUp, blockMoved, popped, returned, interruptsTo, interruptReturned, called, jumped, looped, doneOf};
+ghost use Rattle.execute.specs.Doing.{flagged, storedAt, wordStoredAt, noStoresBeside, transferred, countedUp, pairCountedUp, blockMoved, popped, returned, interruptsTo, interruptReturned, called, jumped, looped, doneOf};
 
 // The affected flags, on the FLAGS byte that is in place by now.
 fn lay(regs: &mut [u8; 256], k: Core, e: Flags) -> Core
@@ -44,9 +44,9 @@ fn store_word(regs: &mut [u8; 256], k: Core, dst: u8, o: WordOutcome) -> Core
     lay(regs, stored, flags)
 }
 
-// Nothing for data memory.
-fn still(k: Core) -> Pushed
-    ensures { λ r. ⌜ r ≡ stillCore k ⌝ }
+// Nothing to be stored in data memory.
+fn no_stores(k: Core) -> Pushed
+    ensures { λ r. ⌜ r ≡ noStoresBeside k ⌝ }
 {
     Pushed {
         k,
@@ -58,8 +58,8 @@ fn transfer(regs: &mut [u8; 256], k: Core, t: Transfer) -> Pushed
     ensures { λ r. ⌜ stackedOf (now (regs .exit)) r ≡ transferred (whole (now (regs .entry)) k) t ⌝ }
 {
     match t {
-        Transfer::Dropped => still(k),
-        Transfer::ToRegister(a, v) => still(machine::registers::write(regs, k, a, v)),
+        Transfer::Dropped => no_stores(k),
+        Transfer::ToRegister(a, v) => no_stores(machine::registers::write(regs, k, a, v)),
         Transfer::ToMemory(a, v) => {
             let b = Bytes::One(v);
             Pushed {
@@ -70,7 +70,7 @@ fn transfer(regs: &mut [u8; 256], k: Core, t: Transfer) -> Pushed
     }
 }
 
-// One more to what the register at r reads.
+// 1 added to what the register at r reads by now.
 fn count_up(regs: &mut [u8; 256], k: Core, pins: Pins, r: u8) -> Core
     ensures { λ x. ⌜ whole (now (regs .exit)) x ≡ countedUp pins (whole (now (regs .entry)) k) r ⌝ }
 {
@@ -79,7 +79,7 @@ fn count_up(regs: &mut [u8; 256], k: Core, pins: Pins, r: u8) -> Core
     machine::registers::write(regs, k, r, more)
 }
 
-// One more to what the pair at rr reads.
+// 1 added to what the pair at rr reads by now.
 fn count_pair_up(regs: &mut [u8; 256], k: Core, pins: Pins, rr: u8) -> Core
     ensures { λ x. ⌜ whole (now (regs .exit)) x ≡ pairCountedUp pins (whole (now (regs .entry)) k) rr ⌝ }
 {
@@ -139,7 +139,8 @@ fn iret(regs: &mut [u8; 256], k: Core, flags: u8, to: u16) -> Core
     interrupts(regs, back, true)
 }
 
-// As in `machine::registers::write`, what is returned is put together from parts, here and in `call`.
+// What is returned is put together from parts, here and in `call`, so that the compiler keeps them in registers (see
+// `machine::registers::write`).
 fn push(regs: &mut [u8; 256], k: Core, v: u8) -> Pushed
     ensures { λ r. ⌜ stackedOf (now (regs .exit)) r ≡ pushed (whole (now (regs .entry)) k) (Bytes.One v) ⌝ }
 {
@@ -171,11 +172,11 @@ fn jump(regs: &[u8; 256], k: Core, taken: bool, to: u16) -> Core
     if taken { machine::at_pc(k, to) } else { k }
 }
 
-fn djnz(regs: &mut [u8; 256], k: Core, r: u8, v: u8, to: u16) -> Core
-    ensures { λ x. ⌜ whole (now (regs .exit)) x ≡ looped (whole (now (regs .entry)) k) r v to ⌝ }
+fn djnz(regs: &mut [u8; 256], k: Core, r: u8, v: u8, taken: bool, to: u16) -> Core
+    ensures { λ x. ⌜ whole (now (regs .exit)) x ≡ looped (whole (now (regs .entry)) k) r v taken to ⌝ }
 {
     let stored = machine::registers::write(regs, k, r, v);
-    jump(regs, stored, v != 0, to)
+    jump(regs, stored, taken, to)
 }
 
 // A deed done.
@@ -183,19 +184,19 @@ pub fn carry_out(regs: &mut [u8; 256], k: Core, pins: Pins, d: Deed) -> Pushed
     ensures { λ r. ⌜ stackedOf (now (regs .exit)) r ≡ doneOf pins (whole (now (regs .entry)) k) d ⌝ }
 {
     match d {
-        Deed::Nothing => still(k),
+        Deed::Nothing => no_stores(k),
         Deed::Move(t) => transfer(regs, k, t),
-        Deed::Store(dst, o) => still(store(regs, k, dst, o)),
-        Deed::StoreWord(dst, o) => still(store_word(regs, k, dst, o)),
-        Deed::Test(e) => still(lay(regs, k, e)),
+        Deed::Store(dst, o) => no_stores(store(regs, k, dst, o)),
+        Deed::StoreWord(dst, o) => no_stores(store_word(regs, k, dst, o)),
+        Deed::Test(e) => no_stores(lay(regs, k, e)),
         Deed::Block(t, r, rr) => block(regs, k, pins, t, r, rr),
         Deed::Push(v) => push(regs, k, v),
-        Deed::Pop(dst, v) => still(pop(regs, k, dst, v)),
+        Deed::Pop(dst, v) => no_stores(pop(regs, k, dst, v)),
         Deed::Call(to) => call(regs, k, to),
-        Deed::Return(to) => still(ret(regs, k, to)),
-        Deed::ReturnFromInterrupt(flags, to) => still(iret(regs, k, flags, to)),
-        Deed::Jump(taken, to) => still(jump(regs, k, taken, to)),
-        Deed::Loop(r, v, to) => still(djnz(regs, k, r, v, to)),
-        Deed::Interrupts(on) => still(interrupts(regs, k, on)),
+        Deed::Return(to) => no_stores(ret(regs, k, to)),
+        Deed::ReturnFromInterrupt(flags, to) => no_stores(iret(regs, k, flags, to)),
+        Deed::Jump(taken, to) => no_stores(jump(regs, k, taken, to)),
+        Deed::Loop(r, v, taken, to) => no_stores(djnz(regs, k, r, v, taken, to)),
+        Deed::Interrupts(on) => no_stores(interrupts(regs, k, on)),
     }
 }

@@ -27,7 +27,8 @@ workingIndirectAt p m x = readReg p m (workingAt m x)
 unfoldable pub indexedAt : Pins → Machine → ℕ → ℕ → ℕ
 indexedAt p m offset x = (offset + workingIndirectAt p m x) % 256
 
--- "A pair address drops its lowest bit (HOUSE); the even register is the high byte." The address is a field's (`registerAt`, `workingAt`).
+-- "A pair address drops its lowest bit (HOUSE); the even register is the high byte." The address is a field's
+-- (`registerAt`, `workingAt`), or one found in a register (DECW and INCW of IR).
 abbrev pub evenOf : ℕ → ℕ
 evenOf a = a / 2 * 2
 

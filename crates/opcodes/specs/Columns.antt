@@ -59,7 +59,7 @@ unaryCost unary.Rrc = 6
 unaryCost unary.Sra = 6
 unaryCost unary.Swap = 8
 
--- of PUSH, by the kind of stack; of jumps, by whether they are taken
+-- of PUSH, by the kind of stack (no opcode has PUSH r); of jumps, by whether they are taken
 abbrev pub pushCost : One → Bool → ℕ
 pushCost one.Work inside = 10
 pushCost one.Reg inside = pick inside 10 12

@@ -1,6 +1,6 @@
 -- The execution cycles of the opcode map, as printed: the first figure in each of its cells. Two figures are two outcomes: of
 -- DJNZ, JR and JP cc the jump taken and not taken, of PUSH the stack inside (the register file) and outside (data memory).
--- Where the sheets' maps differ, chapter 5 decides: DA @R is 8, SWAP is 8. Assumes nothing.
+-- Where the sheets' maps differ, 004 decides: DA @R is 8, SWAP is 8. Assumes nothing.
 use Prim.Native.Nat.{ℕ}
 use mathlib.Core.Bool.{Bool}
 use mathlib.Core.List.{List, [], _∷_}

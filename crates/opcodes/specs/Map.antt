@@ -1,6 +1,6 @@
 -- The opcode map of 004, Appendix C, as printed: a row for each upper nibble of the opcode, a column for each lower one. Each
 -- entry gives the kind of instruction, its mnemonic and its address modes (5.4), destination first; "the blank areas are not
--- defined". Where our copy of Appendix C has lost rows, the maps of 000 and 003 have them. Assumes nothing.
+-- defined". Where our copy of Appendix C is damaged (column F, the label of row 7), the maps of 000 and 003 decide. Assumes nothing.
 use Prim.Native.Nat.{ℕ}
 use mathlib.Core.List.{List, [], _∷_}
 use lib.ListN.{getD}
@@ -97,7 +97,7 @@ DA = target.Direct
 abbrev pub IRR : Target
 IRR = target.Pair
 
--- Pages that differ in the result alone are one kind; here each has its mnemonic.
+-- Pages that read and store alike are one kind; here each has its mnemonic.
 abbrev pub Adc : Two → Kind
 Adc w = Binary binary.Adc w
 

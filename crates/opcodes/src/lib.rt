@@ -90,8 +90,8 @@ pub enum Paired {
     Incw,
 }
 
-// The kind of an instruction: its page in chapter 5, and its address modes where the page has several. Pages that differ in the
-// result alone are one kind.
+// The kind of an instruction: its page in chapter 5, and its address modes where the page has several. Pages that read and store alike
+// are one kind, with the page inside it.
 pub enum Kind {
     Binary(Binary, Two),
     Test(Test, Two),

@@ -1,7 +1,7 @@
 use borrow.Author.Needs.{needs}
 use Rattle.deeds.proofs.pages.deed.Statement.{statement}
 use Rattle.deeds.proofs.pages.deed.Tie as tie
-use Rattle.deeds.specs.Pages.{deedOf, firstOf}
+use Rattle.deeds.specs.Pages.{deedOf, outcomeOf}
 
 enum-known-kind : tie.Need-enum-known-kind
 enum-known-kind c = search needs
@@ -163,107 +163,107 @@ plan-requires-4 : tie.Need-plan-requires-4
 plan-requires-4 c κs = search needs
 
 returns : tie.Need-returns
-unfolding deedOf firstOf
+unfolding deedOf outcomeOf
 returns c = rw (c .binary .ensures, c .before .known-told .given .1, c .before .before .kind .given .1)
 
 returns-2 : tie.Need-returns-2
-unfolding deedOf firstOf
+unfolding deedOf outcomeOf
 returns-2 c = rw (c .test .ensures, c .before .known-told2 .given .1, c .before .before .kind2 .given .1)
 
 returns-3 : tie.Need-returns-3
-unfolding deedOf firstOf
+unfolding deedOf outcomeOf
 returns-3 c = rw (c .unary .ensures, c .before .known-told3 .given .1, c .before .before .kind3 .given .1)
 
 returns-4 : tie.Need-returns-4
-unfolding deedOf firstOf
+unfolding deedOf outcomeOf
 returns-4 c = rw (c .paired .ensures, c .before .known-told4 .given .1, c .before .before .kind4 .given .1)
 
 returns-5 : tie.Need-returns-5
-unfolding deedOf firstOf
+unfolding deedOf outcomeOf
 returns-5 c = rw (c .call .ensures, c .before .known-told5 .given .1, c .before .before .kind5 .given .1)
 
 returns-6 : tie.Need-returns-6
-unfolding deedOf firstOf
+unfolding deedOf outcomeOf
 returns-6 c = rw (c .ccf .ensures, c .before .enum-told .given .1)
 
 returns-7 : tie.Need-returns-7
-unfolding deedOf firstOf
+unfolding deedOf outcomeOf
 returns-7 c = rw (c .clr .ensures, c .before .known-told6 .given .1, c .before .before .kind6 .given .1)
 
 returns-8 : tie.Need-returns-8
-unfolding deedOf firstOf
+unfolding deedOf outcomeOf
 returns-8 c = rw (c .da .ensures, c .before .known-told7 .given .1, c .before .before .kind7 .given .1)
 
 returns-9 : tie.Need-returns-9
-unfolding deedOf firstOf
+unfolding deedOf outcomeOf
 returns-9 c = rw (c .plan .ensures, c .before .enum-told2 .given .1)
 
 returns-10 : tie.Need-returns-10
-unfolding deedOf firstOf
+unfolding deedOf outcomeOf
 returns-10 c = rw (c .djnz .ensures, c .before .enum-told3 .given .1)
 
 returns-11 : tie.Need-returns-11
-unfolding deedOf firstOf
+unfolding deedOf outcomeOf
 returns-11 c = rw (c .plan2 .ensures, c .before .enum-told4 .given .1)
 
 returns-12 : tie.Need-returns-12
-unfolding deedOf firstOf
+unfolding deedOf outcomeOf
 returns-12 c = rw (c .iret .ensures, c .before .enum-told5 .given .1)
 
 returns-13 : tie.Need-returns-13
-unfolding deedOf firstOf
+unfolding deedOf outcomeOf
 returns-13 c = rw (c .jp .ensures, c .before .known-told8 .given .1, c .before .before .kind8 .given .1)
 
 returns-14 : tie.Need-returns-14
-unfolding deedOf firstOf
+unfolding deedOf outcomeOf
 returns-14 c = rw (c .jr .ensures, c .before .enum-told6 .given .1)
 
 returns-15 : tie.Need-returns-15
-unfolding deedOf firstOf
+unfolding deedOf outcomeOf
 returns-15 c = rw (c .ld .ensures, c .before .known-told9 .given .1, c .before .before .kind9 .given .1)
 
 returns-16 : tie.Need-returns-16
-unfolding deedOf firstOf
+unfolding deedOf outcomeOf
 returns-16 c = rw (c .ldc .ensures, c .before .known-told10 .given .1, c .before .before .kind10 .given .1)
 
 returns-17 : tie.Need-returns-17
-unfolding deedOf firstOf
+unfolding deedOf outcomeOf
 returns-17 c = rw (c .ldci .ensures, c .before .known-told11 .given .1, c .before .before .kind11 .given .1)
 
 returns-18 : tie.Need-returns-18
-unfolding deedOf firstOf
+unfolding deedOf outcomeOf
 returns-18 c = rw (c .lde .ensures, c .before .known-told12 .given .1, c .before .before .kind12 .given .1)
 
 returns-19 : tie.Need-returns-19
-unfolding deedOf firstOf
+unfolding deedOf outcomeOf
 returns-19 c = rw (c .ldei .ensures, c .before .known-told13 .given .1, c .before .before .kind13 .given .1)
 
 returns-20 : tie.Need-returns-20
-unfolding deedOf firstOf
+unfolding deedOf outcomeOf
 returns-20 c = rw (c .plan3 .ensures, c .before .enum-told7 .given .1)
 
 returns-21 : tie.Need-returns-21
-unfolding deedOf firstOf
+unfolding deedOf outcomeOf
 returns-21 c = rw (c .pop .ensures, c .before .known-told14 .given .1, c .before .before .kind14 .given .1)
 
 returns-22 : tie.Need-returns-22
-unfolding deedOf firstOf
+unfolding deedOf outcomeOf
 returns-22 c = rw (c .push .ensures, c .before .known-told15 .given .1, c .before .before .kind15 .given .1)
 
 returns-23 : tie.Need-returns-23
-unfolding deedOf firstOf
+unfolding deedOf outcomeOf
 returns-23 c = rw (c .rcf .ensures, c .before .enum-told8 .given .1)
 
 returns-24 : tie.Need-returns-24
-unfolding deedOf firstOf
+unfolding deedOf outcomeOf
 returns-24 c = rw (c .ret .ensures, c .before .enum-told9 .given .1)
 
 returns-25 : tie.Need-returns-25
-unfolding deedOf firstOf
+unfolding deedOf outcomeOf
 returns-25 c = rw (c .scf .ensures, c .before .enum-told10 .given .1)
 
 returns-26 : tie.Need-returns-26
-unfolding deedOf firstOf
+unfolding deedOf outcomeOf
 returns-26 c = rw (c .plan4 .ensures, c .before .load .ensures, c .before .before .enum-told11 .given .1)
 
 pub deed-spec : {M : Type 1} → statement M

@@ -1,7 +1,7 @@
 use borrow.Author.Needs.{needs}
 use Rattle.deeds.proofs.pages.djnz.Statement.{statement}
 use Rattle.deeds.proofs.pages.djnz.Tie as tie
-use Rattle.deeds.specs.Pages.{djnzDeed, firstOf}
+use Rattle.deeds.specs.Pages.{djnzDeed, outcomeOf}
 
 upper-requires : tie.Need-upper-requires
 upper-requires c κs = search needs
@@ -22,7 +22,7 @@ plan-requires : tie.Need-plan-requires
 plan-requires c κs = search needs
 
 returns : tie.Need-returns
-unfolding djnzDeed firstOf
+unfolding djnzDeed outcomeOf
 returns c = rw (c .plan .ensures, c .before .jump-cycles .ensures, c .before .before .moved .ensures, c .before .before .before .wrapping-add-u8 .ensures, c .before .before .before .before .read .ensures, c .before .before .before .before .before .upper .ensures)
 
 pub djnz-spec : {M : Type 1} → statement M

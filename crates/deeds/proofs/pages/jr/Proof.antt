@@ -1,7 +1,7 @@
 use borrow.Author.Needs.{needs}
 use Rattle.deeds.proofs.pages.jr.Statement.{statement}
 use Rattle.deeds.proofs.pages.jr.Tie as tie
-use Rattle.deeds.specs.Pages.{jrDeed, firstOf}
+use Rattle.deeds.specs.Pages.{jrDeed, outcomeOf}
 
 condition-requires : tie.Need-condition-requires
 condition-requires c κs = search needs
@@ -16,7 +16,7 @@ plan-requires : tie.Need-plan-requires
 plan-requires c κs = search needs
 
 returns : tie.Need-returns
-unfolding jrDeed firstOf
+unfolding jrDeed outcomeOf
 returns c = rw (c .plan .ensures, c .before .jump-cycles .ensures, c .before .before .moved .ensures, c .before .before .before .condition .ensures)
 
 pub jr-spec : {M : Type 1} → statement M

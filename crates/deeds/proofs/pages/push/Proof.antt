@@ -1,7 +1,7 @@
 use borrow.Author.Needs.{needs}
 use Rattle.deeds.proofs.pages.push.Statement.{statement}
 use Rattle.deeds.proofs.pages.push.Tie as tie
-use Rattle.deeds.specs.Pages.{pushDeed, firstOf}
+use Rattle.deeds.specs.Pages.{pushDeed, outcomeOf}
 
 one-requires : tie.Need-one-requires
 one-requires c κs = search needs
@@ -19,7 +19,7 @@ plan-requires : tie.Need-plan-requires
 plan-requires c κs = search needs
 
 returns : tie.Need-returns
-unfolding pushDeed firstOf
+unfolding pushDeed outcomeOf
 returns c = rw (c .plan .ensures, c .before .push-cycles .ensures, c .before .before .is-inside .ensures, c .before .before .before .read .ensures, c .before .before .before .before .one .ensures)
 
 pub push-spec : {M : Type 1} → statement M

@@ -6,8 +6,8 @@ use Rattle.execute.specs.Doing.{transferred}
 enum-told : tie.Need-enum-told
 enum-told c = search needs
 
-still-requires : tie.Need-still-requires
-still-requires c κs = search needs
+no-stores-requires : tie.Need-no-stores-requires
+no-stores-requires c κs = search needs
 
 enum-known-t : tie.Need-enum-known-t
 enum-known-t c = search needs
@@ -15,19 +15,19 @@ enum-known-t c = search needs
 write-requires : tie.Need-write-requires
 write-requires c κs = search needs
 
-still-requires-2 : tie.Need-still-requires-2
-still-requires-2 c κs = search needs
+no-stores-requires-2 : tie.Need-no-stores-requires-2
+no-stores-requires-2 c κs = search needs
 
 enum-known-t-2 : tie.Need-enum-known-t-2
 enum-known-t-2 c = search needs
 
 returns : tie.Need-returns
 unfolding transferred
-returns c = rw (c .still .ensures, c .before .enum-told .given .1)
+returns c = rw (c .no-stores .ensures, c .before .enum-told .given .1)
 
 returns-2 : tie.Need-returns-2
 unfolding transferred
-returns-2 c = rw (c .still2 .ensures, c .before .write .ensures, c .before .before .before .known-told .given .1, c .before .before .before .before .t .given .1)
+returns-2 c = rw (c .no-stores2 .ensures, c .before .write .ensures, c .before .before .before .known-told .given .1, c .before .before .before .before .t .given .1)
 
 returns-3 : tie.Need-returns-3
 unfolding transferred
@@ -38,10 +38,10 @@ transfer-spec =
     tie.close
     (tie.spec
     enum-told
-    still-requires
+    no-stores-requires
     enum-known-t
     write-requires
-    still-requires-2
+    no-stores-requires-2
     enum-known-t-2
     returns
     returns-2
