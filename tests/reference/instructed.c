@@ -62,14 +62,37 @@ static uint8_t fitted(uint32_t k, uint8_t v)
 static uint16_t stack_pointer(uint32_t i)
 {
     uint32_t near = draw(i, 300) % 8;
-    switch (draw(i, 301) % 6) {
+    switch (draw(i, 301) % 8) {
     case 0: return (uint16_t)(2044 + near);
     case 1: return (uint16_t)(4092 + near);
     case 2: return (uint16_t)(4996 + near);
     case 3: return (uint16_t)(65532 + near % 4);
     case 4: return (uint16_t)near;
+    case 5: case 6: return (uint16_t)(4080 + draw(i, 302) % 20);
     default: return (uint16_t)draw(i, 302);
     }
+}
+
+/* What place k holds: in half of the machines most general registers have the address of a port, a control register or a hole, and
+   in half RP names the first group or one of the last two. */
+static uint8_t content(uint32_t i, uint32_t k)
+{
+    uint8_t v = byte(i, k);
+    if (k >= 0x04 && k <= 0x7F && draw(i, 313) % 2 == 0)
+        switch (v % 4) {
+        case 0: return v / 64;
+        case 1: return (uint8_t)(0xF0 + v / 16);
+        case 2: return (uint8_t)(0xE0 + v / 16);
+        default: return v;
+        }
+    if (k == 0xFD)
+        switch (draw(i, 312) % 8) {
+        case 0: return 0x00;
+        case 1: return 0xE0;
+        case 2: case 3: return 0xF0;
+        default: return v;
+        }
+    return v;
 }
 
 static struct ref_machine drawn(uint32_t i, uint16_t pc)
@@ -78,7 +101,7 @@ static struct ref_machine drawn(uint32_t i, uint16_t pc)
     uint8_t s[REF_SAVED_LENGTH];
     uint16_t sp = stack_pointer(i);
     for (uint32_t k = 0; k < REF_SAVED_LENGTH; k++)
-        s[k] = fitted(k, byte(i, k));
+        s[k] = fitted(k, content(i, k));
     s[0xFE] = (uint8_t)(sp >> 8);
     s[0xFF] = (uint8_t)sp;
     s[256] = (uint8_t)(pc >> 8);

@@ -63,16 +63,49 @@ fn fitted(k: u32, v: u8) -> u8 {
     }
 }
 
-// Where bytes are popped from an outside stack: near the start of data memory or the end of what is lent, or anywhere.
+// A stack pointer: near the start of data memory or the end of what is lent; inside, among the control registers and ports; or anywhere.
 fn stack_pointer(i: u32) -> u16 {
     let near = draw(i, 300) % 8;
-    match draw(i, 301) % 6 {
+    match draw(i, 301) % 8 {
         0 => (2044 + near) as u16,
         1 => (4092 + near) as u16,
         2 => (4996 + near) as u16,
         3 => (65532 + near % 4) as u16,
         4 => near as u16,
+        5 => (4080 + draw(i, 302) % 20) as u16,
+        6 => (4080 + draw(i, 302) % 20) as u16,
         _ => (draw(i, 302) % 65536) as u16,
+    }
+}
+
+// What place k holds: in half of the machines most general registers have the address of a port, a control register or a hole, and in
+// half RP names the first group or one of the last two.
+fn content(i: u32, k: u32) -> u8 {
+    let v = byte(i, k);
+    let hard = draw(i, 313) % 2;
+    match k {
+        0x04..=0x7F => if hard == 0 { special(v) } else { v },
+        0xFD => group(draw(i, 312), v),
+        _ => v,
+    }
+}
+
+fn special(v: u8) -> u8 {
+    match v % 4 {
+        0 => v / 64,
+        1 => 0xF0 + v / 16,
+        2 => 0xE0 + v / 16,
+        _ => v,
+    }
+}
+
+fn group(choice: u32, v: u8) -> u8 {
+    match choice % 8 {
+        0 => 0x00,
+        1 => 0xE0,
+        2 => 0xF0,
+        3 => 0xF0,
+        _ => v,
     }
 }
 
@@ -81,7 +114,7 @@ fn draw_saved(s: &mut [u8], i: u32)
     requires { ⌜ 268 ≤ length (now s) ⌝ }
 {
     for k in 0..268u32 {
-        s[k as usize] = fitted(k, byte(i, k));
+        s[k as usize] = fitted(k, content(i, k));
     }
 }
 

@@ -15,8 +15,8 @@ abbrev μ-loop : tie.MeasureT-loop
 loop-holds : tie.Need-loop-holds Inv-loop μ-loop
 loop-holds c = (omega arith, (refl, search needs))
 
-byte-requires : tie.Need-byte-requires Inv-loop μ-loop
-byte-requires c κs = search needs
+content-requires : tie.Need-content-requires Inv-loop μ-loop
+content-requires c κs = search needs
 
 fitted-requires : tie.Need-fitted-requires Inv-loop μ-loop
 fitted-requires c κs = search needs
@@ -49,7 +49,7 @@ draw-saved-spec =
     Inv-loop
     μ-loop
     loop-holds
-    byte-requires
+    content-requires
     fitted-requires
     cast-s
     slice-write-s
