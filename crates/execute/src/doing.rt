@@ -40,8 +40,8 @@ fn store_word(regs: &mut [u8; 256], k: Core, dst: u8, o: WordOutcome) -> Core
     ensures { λ r. ⌜ whole (now (regs .exit)) r ≡ wordStoredAt (whole (now (regs .entry)) k) dst o ⌝ }
 {
     let flags = o.flags;
-    let stored = machine::addresses::write_pair(regs, k, dst, o.value);
-    lay(regs, stored, flags)
+    let pair = machine::addresses::write_pair(regs, k, dst, o.value);
+    lay(regs, pair, flags)
 }
 
 // Nothing to be stored in data memory.

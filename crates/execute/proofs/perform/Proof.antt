@@ -4,6 +4,10 @@ use Rattle.execute.proofs.perform.Tie as tie
 use Rattle.machine.specs.State.{withPc}
 use Rattle.opcodes.proofs.Theorems.{cycles-by-kind}
 use Rattle.execute.specs.Execute.{performOf}
+use mathlib.Core.Path.{_≡_, _∙_, ap}
+use Rattle.word.specs.Words.{plus}
+use Rattle.opcodes.specs.Instruction.{lengthOf}
+use Rattle.machine.specs.State.{atPc}
 
 length-of-requires : tie.Need-length-of-requires
 length-of-requires c κs = search needs
@@ -25,7 +29,7 @@ carry-out-requires c κs = search needs
 
 returns : tie.Need-returns
 unfolding performOf withPc
-returns c = let e = rw (c .before .before .before .deed .ensures, c .before .before .before .before .before .at-pc .ensures, c .before .before .before .before .before .before .plus .ensures, c .before .before .before .before .before .before .before .length-of .ensures) at (c .before .carry-out .ensures) in rw (c .before .before .before .deed .ensures, c .before .before .before .before .before .at-pc .ensures, c .before .before .before .before .before .before .plus .ensures, c .before .before .before .before .before .before .before .length-of .ensures, cycles-by-kind (c .before .before .before .before .before .before .before .before .before .before .args .i .op) _ (c .before .before .before .before .before .before .before .before .before .before .pre), ← e)
+returns c = let next : c .before .before .before .before .before .at-pc .result ≡ atPc (c .before .before .before .before .before .before .before .before .before .before .args .k) (plus (c .before .before .before .before .before .before .before .before .before .before .args .k .pc) (lengthOf (c .before .before .before .before .before .before .before .before .before .before .args .i .op))) = c .before .before .before .before .before .at-pc .ensures ∙ ap (atPc (c .before .before .before .before .before .before .before .before .before .before .args .k)) (c .before .before .before .before .before .before .plus .ensures ∙ ap (plus (c .before .before .before .before .before .before .before .before .before .before .args .k .pc)) (c .before .before .before .before .before .before .before .length-of .ensures)) in let e = rw (c .before .before .before .deed .ensures, next) at (c .before .carry-out .ensures) in rw (c .before .before .before .deed .ensures, next, cycles-by-kind (c .before .before .before .before .before .before .before .before .before .before .args .i .op) _ (c .before .before .before .before .before .before .before .before .before .before .pre), ← e)
 
 pub perform-spec : {M : Type 1} → statement M
 perform-spec =

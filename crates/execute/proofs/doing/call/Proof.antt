@@ -4,6 +4,9 @@ use Rattle.execute.proofs.doing.call.Tie as tie
 use Rattle.execute.specs.Doing.{called}
 use Rattle.machine.specs.State.{withPc}
 use Rattle.machine.proofs.Whole.{push-is}
+use mathlib.Core.Path.{ap}
+use Rattle.execute.specs.Doing.{then}
+use Rattle.machine.specs.declared.Machine.{Machine}
 
 high-byte-requires : tie.Need-high-byte-requires
 high-byte-requires c κs = search needs
@@ -22,7 +25,7 @@ at-pc-requires c κs = search needs
 
 returns : tie.Need-returns
 unfolding called withPc
-returns c = let e = push-is _ _ _ (rw (c .before .before .before .before .before .low-byte .ensures, c .before .before .before .before .before .before .high-byte .ensures) at (c .before .before .before .push .ensures)) in rw (c .at-pc .ensures, c .before .keeping .ensures, ← e)
+returns c = let e = push-is _ _ _ (rw (c .before .before .before .before .before .low-byte .ensures, c .before .before .before .before .before .before .high-byte .ensures) at (c .before .before .before .push .ensures)) in rw (c .at-pc .ensures, c .before .keeping .ensures) (ap (then (λ (n : Machine). withPc n (c .before .before .before .before .before .before .before .args .to))) e)
 
 pub call-spec : {M : Type 1} → statement M
 call-spec =
