@@ -60,14 +60,6 @@ static uint32_t over_jumps(void)
     return h;
 }
 
-static uint32_t over_cycles(int first)
-{
-    uint32_t h = 0;
-    for (int op = 0; op < 256; op++)
-        h = mixed(h, (uint32_t)ref_cycles(op, first));
-    return h;
-}
-
 /* The bytes as one number, length first, or the refusal. */
 static uint32_t packed(int length, int op, int a, int b)
 {
@@ -188,8 +180,6 @@ int main(void)
     line("INCW", over_words(1));
     line("conditions", over_conditions());
     line("displacements", over_jumps());
-    line("cycles, first", over_cycles(1));
-    line("cycles, second", over_cycles(0));
     line("decoding", over_instructions(0));
     line("encoding", over_instructions(1));
     line("lengths", over_lengths());

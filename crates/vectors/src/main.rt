@@ -105,10 +105,6 @@ fn displaced(i: u32) -> u32 {
     word::moved((i % 65536) as u16, (i / 65536 % 256) as u8) as u32
 }
 
-fn cycles(first: bool, i: u32) -> u32 {
-    opcodes::cycles::cycles_of((i % 256) as u8, first) as u32
-}
-
 // Four bytes as one number, the length first.
 fn packed(length: u8, op: u8, a: u8, b: u8) -> u32 {
     length as u32 * 16777216 + op as u32 * 65536 + a as u32 * 256 + b as u32
@@ -263,15 +259,13 @@ fn asked(question: u8, i: u32) -> u32 {
         24 => one_more(i),
         25 => condition(i),
         26 => displaced(i),
-        27 => cycles(true, i),
-        28 => cycles(false, i),
-        29 => decoding(i),
-        30 => encoding(i),
-        31 => opcodes::instruction::length_of((i % 256) as u8) as u32,
-        32 => spanned(i, 4096),
-        33 => spanned(i, 1048576),
-        34 => edged(i),
-        35 => written(i),
+        27 => decoding(i),
+        28 => encoding(i),
+        29 => opcodes::instruction::length_of((i % 256) as u8) as u32,
+        30 => spanned(i, 4096),
+        31 => spanned(i, 1048576),
+        32 => edged(i),
+        33 => written(i),
         _ => on_bytes(question, i),
     }
 }
@@ -330,13 +324,11 @@ fn main() {
     line(b"INCW", 24, 131072);
     line(b"conditions", 25, 4096);
     line(b"displacements", 26, TRIPLES);
-    line(b"cycles, first", 27, 256);
-    line(b"cycles, second", 28, 256);
-    line(b"decoding", 29, TRIPLES);
-    line(b"encoding", 30, TRIPLES);
-    line(b"lengths", 31, 256);
-    line(b"spans", 32, DRAWN);
-    line(b"long spans", 33, 1024);
-    line(b"edges", 34, DRAWN);
-    line(b"writes to TMR", 35, DRAWN);
+    line(b"decoding", 27, TRIPLES);
+    line(b"encoding", 28, TRIPLES);
+    line(b"lengths", 29, 256);
+    line(b"spans", 30, DRAWN);
+    line(b"long spans", 31, 1024);
+    line(b"edges", 32, DRAWN);
+    line(b"writes to TMR", 33, DRAWN);
 }
