@@ -60,13 +60,6 @@ store-leaves-core m a v n =
     S : Machine → Type 0
     S k = coreOf k ≡ coreOf m
 
--- a store to TMR leaves all that is no place but the counts and T_OUT: "The divider isn't touched."
-pub tmr-store-leaves : (m : Machine) (v : ℕ)
-    → (writeReg m 0xF1 v .pc ≡ m .pc) × (writeReg m 0xF1 v .divider ≡ m .divider) × (writeReg m 0xF1 v .last3 ≡ m .last3)
-    × (writeReg m 0xF1 v .kind ≡ m .kind) × (writeReg m 0xF1 v .cost ≡ m .cost)
-unfolding writeReg writeTmr countsAt placed written movingOf
-tmr-store-leaves m v = (refl, refl, refl, refl, refl)
-
 -- an address Ex that is found inside a register is that hole, whatever RP is: the Ex rule isn't applied to it
 pub found-as-it-is : (p : Pins) (m : Machine) (b x v : ℕ) → readReg p m (registerAt m b) ≡ 0xE0 + x → x < 16
     → (readReg p m (indirectAt p m b) ≡ 0xFF) × (writeReg m (indirectAt p m b) v ≡ m)
