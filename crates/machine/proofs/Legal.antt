@@ -18,7 +18,7 @@ use Rattle.timers.specs.Clock.{cycles, written, LegalSetting, LegalMoving}
 use Rattle.timers.specs.declared.Timer.{Timer}
 use Rattle.timers.specs.declared.Moving.{Moving}
 use Rattle.timers.proofs.Legal.{setting-legal, written-legal, cycles-legal}
-use Rattle.machine.specs.State.{heldIn, placedIn, held, placed, withPc}
+use Rattle.machine.specs.State.{heldIn, placedIn, held, placed, withPc, withLast3}
 use Rattle.machine.specs.Ports.{masked, port0Lines, port1Lines, port2Lines, port3Lines, linesOf, portStores, portReads, pinsOf, ofPort}
 use Rattle.machine.specs.Clock.{controlWith, controlOf, movingOf, enabling, countsAt, movedTo, writeTmr, spanOf, shown}
 use Rattle.machine.specs.Registers.{isHole, isWriteOnly, portLines, readPort, writePort, readReg, writeReg}
@@ -103,6 +103,11 @@ pub pc-legal : {m : Machine} (pc : ℕ) → Legal m → pc < 65536 → Legal (wi
 unfolding withPc movingOf
 pc-legal pc l h =
     record { file = l .file; pc-word = h; moving = l .moving; last3-byte = l .last3-byte; kind = l .kind; cost = l .cost }
+
+pub last3-legal : {m : Machine} (port3 : ℕ) → Legal m → port3 < 256 → Legal (withLast3 m port3)
+unfolding withLast3 movingOf
+last3-legal port3 l h =
+    record { file = l .file; pc-word = l .pc-word; moving = l .moving; last3-byte = h; kind = l .kind; cost = l .cost }
 
 -- ---- ports
 -- the pins given with a call are bytes

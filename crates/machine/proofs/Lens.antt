@@ -2,17 +2,21 @@
 -- is the machine itself. So n cycles of a machine are n cycles of what they move, put back once. Assumes nothing.
 use mathlib.Core.Path.{_≡_, refl, ap, sym, _∙_}
 use mathlib.Core.Bool.{Bool, true, false}
-use Prim.Native.Nat.{ℕ, zero, suc, _<_}
+use Prim.Native.Nat.{ℕ, zero, suc, _≤_, _<_}
 use native.Mathlib.Omega.{arith}
 use lib.ListN.{length}
 use lib.Bits.{bitAnd}
 use Rattle.word.proofs.Computed.{made, agree}
 use Rattle.timers.specs.Iter.{iter}
 use Rattle.timers.specs.Control.{settingOf, enable0, enable1, toutMode, tinMode}
-use Rattle.timers.specs.Clock.{cycle, cycles, begun}
+use Rattle.timers.specs.Clock.{cycle, cycles, begun, isShortSpan, shortSpan}
 use Rattle.timers.specs.declared.Moving.{Moving}
 use Rattle.timers.specs.declared.Setting.{Setting}
 use Rattle.timers.specs.declared.Spanned.{Spanned}
+use Rattle.timers.specs.declared.Source.the-variants.{Divider}
+use Rattle.timers.proofs.Division.{shortly-enabled}
+use Rattle.timers.proofs.Cycles.{shortly-is}
+use Rattle.timers.proofs.Theorems.{cycles-within}
 use Rattle.machine.specs.State.{placedIn, held, placed}
 use Rattle.machine.specs.Clock.{Ran, controlWith, controlOf, movingOf, enabling, countsAt, movedTo, seen, shown, cycleOf, spanOf}
 use Rattle.machine.specs.declared.Machine.{Machine}
@@ -115,6 +119,13 @@ pub put-own : (m : Machine) → held m 0xF1 < 256 → movedTo m (movingOf m) ≡
 unfolding movingOf movedTo placed countsAt
 put-own m h = rw (enabling-own _ h, place-own (m .regs) 0xF1, place-own (m .regs) 0xFA)
 
+-- where the enable bits and IRQ are as they were, the counts alone are put
+counts-alone : (m : Machine) (x : Moving) → held m 0xF1 < 256 → x .t0 .enabled ≡ enable0 (held m 0xF1) → x .t1 .enabled ≡ enable1 (held m 0xF1)
+    → x .lines .irq ≡ held m 0xFA → movedTo m x ≡ countsAt m x
+unfolding movedTo placed countsAt
+counts-alone m x h e0 e1 e =
+    rw (e0, e1, e, enabling-own _ h, place-own (m .regs) 0xF1, place-own (m .regs) 0xFA)
+
 -- n cycles of a machine are n cycles of what they move, put back once
 module _ (m : Machine) (long : length (m .regs) ≡ 256) (tmr-byte : held m 0xF1 < 256) where
   abbrev set : Setting
@@ -133,3 +144,19 @@ module _ (m : Machine) (long : length (m .regs) ≡ 256) (tmr-byte : held m 0xF1
   unfolding spanOf cycles iter
   span-is zero = none-yet
   span-is (suc n) = ap cycleOf (span-is n) ∙ one-more (iter n (cycle set) (begun (movingOf m)))
+
+  -- where they are so few that no count ends, the counts alone are put
+  pub span-shortly : (n : ℕ) → movingOf m .divider < 4 → isShortSpan set n (movingOf m) ≡ true
+      → spanOf n m ≡ record { machine = countsAt m (shortSpan set n (movingOf m)); ends0 = 0; ends1 = 0 }
+  unfolding shown shortSpan movingOf
+  span-shortly n h t =
+      rw (
+        span-is n,
+        shortly-is set n (movingOf m) h t,
+        counts-alone m (shortSpan set n (movingOf m)) tmr-byte (shortly-enabled Divider (set .t0) _ (movingOf m .t0)) (shortly-enabled Divider (set .t1) _ (movingOf m .t1)) refl,
+      )
+
+  -- each cycle ends a count at most once
+  pub span-within : (n : ℕ) → (spanOf n m .ends0 ≤ n) × (spanOf n m .ends1 ≤ n)
+  unfolding shown
+  span-within n = rw (span-is n) (cycles-within set n (movingOf m))

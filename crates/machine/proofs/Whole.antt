@@ -8,7 +8,7 @@ use Rattle.word.specs.Fields.{upper, highByte}
 use Rattle.word.specs.Words.{plus}
 use Rattle.word.proofs.Computed.{by-test}
 use Rattle.timers.specs.Clock.{written}
-use Rattle.machine.specs.State.{placedIn, whole, placed, atPc, withPc, keeping}
+use Rattle.machine.specs.State.{placedIn, whole, placed, atPc, atLast3, withLast3, withPc, keeping}
 use Rattle.machine.specs.Clock.{movingOf, countsAt, writeTmr}
 use Rattle.machine.specs.Registers.{isHole, writePort, writeReg}
 use Rattle.machine.specs.Memory.{listOf}
@@ -25,6 +25,10 @@ placed-is a v e = rw (← e)
 pub pc-is : {file : List ℕ} {k : Core} {m : Machine} (pc : ℕ) → whole file k ≡ m → whole file (atPc k pc) ≡ withPc m pc
 unfolding withPc
 pc-is pc e = rw (← e)
+
+pub last3-is : {file : List ℕ} {k : Core} {m : Machine} (port3 : ℕ) → whole file k ≡ m → whole file (atLast3 k port3) ≡ withLast3 m port3
+unfolding withLast3
+last3-is port3 e = rw (← e)
 
 -- n has what m has where no store moves it
 pub record Keeps (m n : Machine) : Type 0 where

@@ -65,6 +65,23 @@ atPc k pc =
 unfoldable pub withPc : Machine → ℕ → Machine
 withPc m pc = whole (m .regs) (atPc (coreOf m) pc)
 
+-- the same with other last pins of Port 3
+abbrev pub atLast3 : Core → ℕ → Core
+atLast3 k port3 =
+    record {
+      pc = k .pc;
+      divider = k .divider;
+      t0 = k .t0;
+      t1 = k .t1;
+      last3 = port3;
+      tout = k .tout;
+      kind = k .kind;
+      cost = k .cost;
+    }
+
+unfoldable pub withLast3 : Machine → ℕ → Machine
+withLast3 m port3 = whole (m .regs) (atLast3 (coreOf m) port3)
+
 -- the rest of a machine with other counts and T_OUT, n's: what a store may move of it
 abbrev pub keeping : Core → Core → Core
 keeping k n =

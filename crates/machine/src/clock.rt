@@ -124,13 +124,23 @@ pub fn write_tmr(regs: &mut [u8; 256], k: Core, v: u8) -> Core
     core_at(k, x)
 }
 
-// n cycles of a machine, by division: the long move.
+// n cycles of a machine, by division: the long move. Mostly no count ends in them, and then the file is left alone.
 pub fn span(regs: &mut [u8; 256], k: Core, n: u32) -> Clocked
     requires { ⌜ Legal (whole (now regs) k) ⌝ }
     ensures { λ r. ⌜ ranOf (now (regs .exit)) r ≡ spanOf n (whole (now (regs .entry)) k) ⌝ }
 {
     let c = control_of(regs, k);
     let m = moving_of(regs, k);
+    let short = timers::clock::is_short(c, m, n);
+    if short {
+        let x = timers::clock::shortly(c, m, n);
+        let after = core_at(k, x);
+        return Clocked {
+            k: after,
+            ends0: 0,
+            ends1: 0,
+        };
+    }
     let x = timers::clock::span(c, m, n);
     let ends0 = x.ends0;
     let ends1 = x.ends1;

@@ -10,7 +10,7 @@ pub mod start;
 
 use timers::Timer;
 ghost use mathlib.Core.Path.{_≡_};
-ghost use Rattle.machine.specs.State.{whole, coreOf, atPc, keeping};
+ghost use Rattle.machine.specs.State.{whole, coreOf, atPc, atLast3, keeping};
 ghost use Rattle.machine.specs.Ports.{bitsIf};
 
 // 01's machine: the register file in address order, the program counter, the divider, both timers' counts in progress, the last Port 3
@@ -101,6 +101,15 @@ pub fn at_pc(k: Core, pc: u16) -> Core
 {
     let mut n = k;
     n.pc = pc;
+    n
+}
+
+// The same with other last pins of Port 3.
+pub fn at_last3(k: Core, port3: u8) -> Core
+    ensures { λ r. ⌜ r ≡ atLast3 k port3 ⌝ }
+{
+    let mut n = k;
+    n.last3 = port3;
     n
 }
 

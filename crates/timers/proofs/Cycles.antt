@@ -1,22 +1,26 @@
 -- Cycles are ticks of the divider, and ticks of both timers are ticks of each. Nothing here looks into a tick or an end. Assumes nothing.
-use mathlib.Core.Path.{_≡_, refl, ap, sym, _∙_}
-use mathlib.Core.Bool.{false}
+use mathlib.Core.Path.{_≡_, refl, ap, sym, _∙_, subst}
+use mathlib.Core.Bool.{Bool, true, false, _&&_}
 use Prim.Native.Nat.{ℕ, zero, suc, _+_, _/_, _%_, _<_}
 use native.Mathlib.Decide.{decLt}
 use native.Mathlib.Omega.{arith}
-use lib.Dec.{eqb}
+use lib.Dec.{T, eqb}
 use borrow.Author.Tests.{ne-eqb}
 use Rattle.timers.specs.Iter.{iter}
-use Rattle.timers.specs.Timer.{more, ticks}
-use Rattle.timers.specs.Clock.{both, cycle, cycles, begun, atDivider, endOf}
+use Rattle.timers.specs.Timer.{more, ticks, isShort}
+use Rattle.timers.specs.Clock.{both, cycle, cycles, begun, atDivider, endOf, isShortSpan, shortSpan}
 use Rattle.timers.specs.declared.Source.{Source}
 use Rattle.timers.specs.declared.Source.the-variants.{Divider}
 use Rattle.timers.specs.declared.Setting.{Setting}
 use Rattle.timers.specs.declared.Moving.{Moving}
 use Rattle.timers.specs.declared.Spanned.{Spanned}
 use Rattle.timers.proofs.Iterate.{iter-zero, iter-suc, iter-both}
-use Rattle.timers.proofs.Division.{ticks-zero, ticks-suc}
+use Rattle.timers.proofs.Division.{ticks-zero, ticks-suc, ticks-shortly}
 use Rattle.timers.proofs.Ends.{ends-swap}
+
+pub both-true : (a b : Bool) → a && b ≡ true → (a ≡ true) × (b ≡ true)
+both-true true b e = (refl, e)
+both-true false b e = (e, absurd (subst T (sym e) tt))
 
 module _ (s : Setting) where
   -- the ticks of both timers are the ticks of each, with what the ends did
@@ -94,3 +98,12 @@ module _ (s : Setting) where
       rw (hk, hd)
       (cycles-are-ticks (begun m) h n
       ∙ ap (λ (x : Spanned). atDivider x ((m .divider + n) % 4)) (ticks-apart Divider m ((m .divider + n) / 4)))
+
+  -- so few cycles that each timer stays within this round of its prescaler
+  pub shortly-is : (n : ℕ) (m : Moving) → m .divider < 4 → isShortSpan s n m ≡ true → cycles s n m ≡ begun (shortSpan s n m)
+  unfolding isShortSpan shortSpan
+  shortly-is n m h t =
+      let k = (m .divider + n) / 4 in
+      let t0 : isShort Divider (s .t0) k (m .t0) ≡ true = both-true (isShort Divider (s .t0) k (m .t0)) (isShort Divider (s .t1) k (m .t1)) t .0 in
+      let t1 : isShort Divider (s .t1) k (m .t1) ≡ true = both-true (isShort Divider (s .t0) k (m .t0)) (isShort Divider (s .t1) k (m .t1)) t .1 in
+      rw (cycles-apart m h n k ((m .divider + n) % 4) refl refl, ticks-shortly Divider (s .t0) (m .t0) k t0, ticks-shortly Divider (s .t1) (m .t1) k t1, iter-zero (endOf (s .t0)), iter-zero (endOf (s .t1)))

@@ -1,12 +1,15 @@
 -- The ticks of one timer, by division: each law is about the definition's ticks one by one, from whatever source they come. Assumes nothing.
-use mathlib.Core.Path.{_≡_, refl, ap, sym, _∙_}
-use mathlib.Core.Bool.{true, false}
+use mathlib.Core.Path.{_≡_, refl, ap, sym, _∙_, subst}
+use mathlib.Core.Bool.{Bool, true, false, not, _||_}
 use Prim.Native.Nat.{ℕ, zero, suc, _+_, _-_, _*_, _/_, _%_, _≤_, _<_}
 use native.Mathlib.Nat.{add-zero, sub-zero, zero-mul, mod-lt, div-lt-iff-lt-mul, mod-add-div', mul-pos}
 use native.Mathlib.Omega.{arith}
-use borrow.Author.Tests.{lt-ltb}
+use lib.Dec.{T, ltb}
+use borrow.Author.Tests.{lt-ltb, ltb-true, ltb-false}
+use Rattle.word.specs.Choose.{pick}
+use Rattle.word.proofs.Computed.{by-test}
 use Rattle.timers.specs.Iter.{iter}
-use Rattle.timers.specs.Timer.{countAt, stopped, noEnd, tick, moves, ticked, more, ticks, LegalSetup, LegalCounting}
+use Rattle.timers.specs.Timer.{countAt, stopped, noEnd, tick, moves, ticked, more, ticks, isShort, shortly, LegalSetup, LegalCounting}
 use Rattle.timers.specs.declared.Source.{Source}
 use Rattle.timers.specs.declared.Setup.{Setup}
 use Rattle.timers.specs.declared.Counting.{Counting}
@@ -166,3 +169,25 @@ module _ (by : Source) (s : Setup) (c : Counting) (goes : moves by s c ≡ true)
           (past-end
           ∙ ap (iter (k - c .timer .prescaler - s .p * (c .timer .counter - 1)) (more by s)) (reload by s c goes 0 a)
           ∙ fresh by s c goes (ls .p-low) a (ls .n-low) (k - c .timer .prescaler - s .p * (c .timer .counter - 1)) 1)
+
+-- the same of so few ticks, and what it takes that they aren't
+pub ticks-shortly : (by : Source) (s : Setup) (c : Counting) (k : ℕ) → isShort by s k c ≡ true → ticks by s k c ≡ noEnd (shortly by s k c)
+unfolding isShort shortly
+ticks-shortly by s c k h = go (moves by s c) refl h
+  where
+    go : (b : Bool) → moves by s c ≡ b → not b || ltb k (c .timer .prescaler) ≡ true
+        → ticks by s k c ≡ noEnd (pick b (countAt c (c .timer .prescaler - k) (c .timer .counter)) c)
+    go true e t = ticks-low by s c e k (ltb-true k (c .timer .prescaler) t)
+    go false e t = ticks-off by s c k e
+
+pub not-shortly : (by : Source) (s : Setup) (c : Counting) (k : ℕ) → isShort by s k c ≡ false → (moves by s c ≡ true) × (c .timer .prescaler ≤ k)
+unfolding isShort
+not-shortly by s c k h = go (moves by s c) h
+  where
+    go : (b : Bool) → not b || ltb k (c .timer .prescaler) ≡ false → (b ≡ true) × (c .timer .prescaler ≤ k)
+    go true t = (refl, ltb-false k (c .timer .prescaler) t)
+    go false t = absurd (subst (λ (x : Bool). T x) t tt)
+
+pub shortly-enabled : (by : Source) (s : Setup) (k : ℕ) (c : Counting) → shortly by s k c .enabled ≡ c .enabled
+unfolding shortly
+shortly-enabled by s k c = by-test (λ (x : Counting). x .enabled ≡ c .enabled) (moves by s c) (λ e. refl) (λ e. refl)

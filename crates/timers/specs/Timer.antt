@@ -1,5 +1,5 @@
 -- One timer, T0 or T1 alike (01 "The timers"; 004 11.3). Assumes nothing.
-use mathlib.Core.Bool.{Bool, false, _&&_}
+use mathlib.Core.Bool.{Bool, false, not, _&&_, _||_}
 use Prim.Native.Nat.{ℕ, _+_, _-_, _/_, _%_, _≤_, _<_}
 use lib.Dec.{ltb}
 use Rattle.word.specs.Choose.{pick}
@@ -63,8 +63,8 @@ pub record LegalCounting (c : Counting) : Type 0 where
   pub counter-low : 0 < c .timer .counter
   pub counter-high : c .timer .counter ≤ 256
 
--- For the contracts of the move by division alone: one tick more, its end counted; k ticks; and a count of so many whole rounds of
--- the prescaler, r ticks later.
+-- For the contracts of the move by division alone: one tick more, its end counted; k ticks; whether they leave the timer within this
+-- round of its prescaler, and its count then; and a count of so many whole rounds of the prescaler, r ticks later.
 unfoldable pub more : Source → Setup → Ticked → Ticked
 more by s a =
     let b = ticked by s (a .counting) in
@@ -72,6 +72,12 @@ more by s a =
 
 unfoldable pub ticks : Source → Setup → ℕ → Counting → Ticked
 ticks by s k c = iter k (more by s) (noEnd c)
+
+unfoldable pub isShort : Source → Setup → ℕ → Counting → Bool
+isShort by s k c = not (moves by s c) || ltb k (c .timer .prescaler)
+
+unfoldable pub shortly : Source → Setup → ℕ → Counting → Counting
+shortly by s k c = pick (moves by s c) (countAt c (c .timer .prescaler - k) (c .timer .counter)) c
 
 abbrev pub down : Counting → ℕ → ℕ → ℕ → Counting
 down c p rounds r = countAt c (p - r % p) (rounds - r / p)

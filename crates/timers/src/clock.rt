@@ -7,12 +7,13 @@ use crate::Setup;
 use crate::Source;
 use crate::Spanned;
 ghost use mathlib.Core.Path.{_≡_};
+ghost use mathlib.Core.Bool.{true};
 ghost use Prim.Native.Nat.{_<_};
 ghost use Rattle.timers.specs.Iter.{iter};
 ghost use Rattle.timers.specs.Requests.{latch};
 ghost use Rattle.timers.specs.Control.{settingOf};
 ghost use Rattle.timers.specs.Timer.{LegalSetup};
-ghost use Rattle.timers.specs.Clock.{flips, endOf, both, begun, cycles, edgeOf, toutWritten, written, LegalSetting, LegalMoving};
+ghost use Rattle.timers.specs.Clock.{flips, endOf, both, begun, cycles, edgeOf, toutWritten, written, roundOf, isShortSpan, shortSpan, LegalSetting, LegalMoving};
 
 // IRQ after e ends that latch request n.
 fn raised(n: u8, irq: u8, e: u32) -> u8
@@ -75,19 +76,75 @@ fn tick_both(by: Source, s: Setting, m: Moving, k: u32) -> Spanned
     Spanned { now, ends0, ends1 }
 }
 
+// The ticks of the divider in some cycles, and the divider after them.
+pub struct Round {
+    pub ticks: u32,
+    pub divider: u32,
+}
+
+fn go_round(divider: u32, n: u32) -> Round
+    requires { ⌜ divider < 4 ⌝ }
+    ensures { λ r. ⌜ r ≡ roundOf divider n ⌝ }
+{
+    let sum = divider + n % 4;
+    let ticks = n / 4 + sum / 4;
+    Round {
+        ticks,
+        divider: sum % 4,
+    }
+}
+
 // n cycles with no register written and the pins held: the long move. It has no loop and no recursion, and calls nothing
 // that has.
 pub fn span(c: Control, m: Moving, n: u32) -> Spanned
     requires { ⌜ LegalMoving m ⌝ }
     ensures { λ r. ⌜ r ≡ cycles (settingOf c) n m ⌝ }
 {
-    let divider = m.divider;
-    let sum = divider + n % 4;
-    let k = n / 4 + sum / 4;
     let s = crate::registers::setting(c);
+    let d = go_round(m.divider, n);
     let mut from = m;
-    from.divider = sum % 4;
-    tick_both(Source::Divider, s, from, k)
+    from.divider = d.divider;
+    tick_both(Source::Divider, s, from, d.ticks)
+}
+
+// Whether so few cycles pass that each timer stays within this round of its prescaler: mostly it is so, and then nothing moves but the
+// divider and the prescalers.
+pub fn is_short(c: Control, m: Moving, n: u32) -> bool
+    requires { ⌜ LegalMoving m ⌝ }
+    ensures { λ r. ⌜ r ≡ isShortSpan (settingOf c) n m ⌝ }
+{
+    let s = crate::registers::setting(c);
+    let s0 = s.t0;
+    let s1 = s.t1;
+    let c0 = m.t0;
+    let c1 = m.t1;
+    let d = go_round(m.divider, n);
+    let short0 = crate::ticks::is_short(Source::Divider, s0, c0, d.ticks);
+    let short1 = crate::ticks::is_short(Source::Divider, s1, c1, d.ticks);
+    short0 & short1
+}
+
+// What n cycles move, where they are so few.
+pub fn shortly(c: Control, m: Moving, n: u32) -> Moving
+    requires { ⌜ LegalMoving m ⌝ }
+    requires { ⌜ isShortSpan (settingOf c) n m ≡ true ⌝ }
+    ensures { λ r. ⌜ r ≡ shortSpan (settingOf c) n m ⌝ }
+{
+    let s = crate::registers::setting(c);
+    let s0 = s.t0;
+    let s1 = s.t1;
+    let c0 = m.t0;
+    let c1 = m.t1;
+    let lines = m.lines;
+    let d = go_round(m.divider, n);
+    let t0 = crate::ticks::shortly(Source::Divider, s0, c0, d.ticks);
+    let t1 = crate::ticks::shortly(Source::Divider, s1, c1, d.ticks);
+    Moving {
+        divider: d.divider,
+        t0,
+        t1,
+        lines,
+    }
 }
 
 // What a falling edge of P31 does to the timers. (Request 2 is no matter of theirs.)

@@ -5,8 +5,9 @@ use crate::Source;
 use crate::Ticked;
 use crate::Timer;
 ghost use mathlib.Core.Path.{_≡_};
+ghost use mathlib.Core.Bool.{true};
 ghost use Prim.Native.Nat.{_*_, _≤_, _<_};
-ghost use Rattle.timers.specs.Timer.{countAt, takes, moves, stopped, down, ticks, timerWritten, LegalSetup, LegalCounting};
+ghost use Rattle.timers.specs.Timer.{countAt, takes, moves, stopped, isShort, shortly, down, ticks, timerWritten, LegalSetup, LegalCounting};
 
 // Whether the timer takes ticks from this source.
 fn takes(by: Source, s: Setup) -> bool
@@ -50,6 +51,31 @@ fn stopped(prescaler: u32) -> Counting
     }
 }
 
+// Whether k ticks from this source leave the timer within this round of its prescaler, or don't move it.
+pub fn is_short(by: Source, s: Setup, c: Counting, k: u32) -> bool
+    ensures { λ r. ⌜ r ≡ isShort by s k c ⌝ }
+{
+    let timer = c.timer;
+    let prescaler = timer.prescaler;
+    let moving = moves(by, s, c);
+    !moving | (k < prescaler)
+}
+
+// The count after so few ticks: it has not ended.
+pub fn shortly(by: Source, s: Setup, c: Counting, k: u32) -> Counting
+    requires { ⌜ isShort by s k c ≡ true ⌝ }
+    ensures { λ r. ⌜ r ≡ shortly by s k c ⌝ }
+{
+    let timer = c.timer;
+    let prescaler = timer.prescaler;
+    let moving = moves(by, s, c);
+    if !moving {
+        return c;
+    }
+    let fallen = prescaler - k;
+    count_at(c, fallen, timer.counter)
+}
+
 // The ticks in so many whole rounds of the prescaler.
 fn ticks_in(p: u32, rounds: u32) -> u32
     requires { ⌜ p ≤ 64 ⌝ }
@@ -72,8 +98,8 @@ fn down(c: Counting, p: u32, rounds: u32, r: u32) -> Counting
     count_at(c, prescaler, counter)
 }
 
-// k ticks from this source, by division. They move nothing; or stay within this round of the prescaler; or within this count; or pass
-// its end, and the timer stops, or goes on from N in whole counts and a part of one.
+// k ticks from this source, by division. They are few; or stay within this count; or pass its end, and the timer stops, or goes on from N
+// in whole counts and a part of one.
 pub fn advance(by: Source, s: Setup, c: Counting, k: u32) -> Ticked
     requires { ⌜ LegalSetup s ⌝ }
     requires { ⌜ LegalCounting c ⌝ }
@@ -85,16 +111,9 @@ pub fn advance(by: Source, s: Setup, c: Counting, k: u32) -> Ticked
     let p = s.p;
     let n = s.n;
     let repeats = s.repeats;
-    let moving = moves(by, s, c);
-    if !moving {
-        return Ticked {
-            counting: c,
-            ends: 0,
-        };
-    }
-    if k < prescaler {
-        let fallen = prescaler - k;
-        let counting = count_at(c, fallen, counter);
+    let short = is_short(by, s, c, k);
+    if short {
+        let counting = shortly(by, s, c, k);
         return Ticked { counting, ends: 0 };
     }
     let rounds = counter - 1;

@@ -1,47 +1,34 @@
 use borrow.Author.Needs.{needs}
 use Rattle.timers.proofs.clock.span.Statement.{statement}
 use Rattle.timers.proofs.clock.span.Tie as tie
-use mathlib.Core.Path.{sym}
+use Rattle.timers.proofs.clock.span.Reads as reads
+use Rattle.timers.proofs.clock.span.Lts as lts
+use Rattle.timers.proofs.clock.go_round.Reads as go-round-reads
+use Rattle.timers.proofs.clock.tick_both.Reads as tick-both-reads
+use Rattle.timers.proofs.registers.setting.Reads as setting-reads
+use Rattle.timers.specs.Clock.{LegalMoving}
+use mathlib.Core.Path.{refl, sym}
 use Prim.Native.Nat.{_+_, _%_}
 use native.Mathlib.Omega.{arith}
-use Rattle.timers.specs.Clock.{LegalMoving}
-use Rattle.timers.specs.Control.{settingOf}
+use Rattle.timers.specs.Control.{settingOf, Bytes}
 use Rattle.timers.specs.declared.Source.the-variants.{Divider}
 use Rattle.timers.proofs.Legal.{setting-legal}
 use Rattle.timers.proofs.Cycles.{cycles-apart, ticks-apart}
 
-add-sum : tie.Need-add-sum
-add-sum c = search needs
-
-add-k : tie.Need-add-k
-add-k c = search needs
+bytes : (s : tie.Start) → Bytes (s .args .c)
+bytes s = search needs
 
 setting-requires : tie.Need-setting-requires
 setting-requires c κs = search needs
 
+go-round-requires : tie.Need-go-round-requires
+go-round-requires c κs = search needs
+
 tick-both-requires : tie.Need-tick-both-requires
-tick-both-requires c κs =
-    let a = c .before .args in
-    let l = c .before .pre in
-    let moved : LegalMoving (record { divider = (a .m .divider + a .n % 4) % 4; t0 = a .m .t0; t1 = a .m .t1; lines = a .m .lines }) =
-    record { divider-high = omega arith; counting0 = l .counting0; counting1 = l .counting1; irq-high = l .irq-high } in
-    (rw (c .setting .ensures) (setting-legal (a .c) (search needs)), moved)
+tick-both-requires c κs = let st = c .before .before in let a = st .args in let l = st .pre in let moved : LegalMoving (record { divider = (a .m .divider + a .n) % 4; t0 = a .m .t0; t1 = a .m .t1; lines = a .m .lines }) = record { divider-high = omega arith; counting0 = l .counting0; counting1 = l .counting1; irq-high = l .irq-high } in (rw (c .before .setting .ensures) (setting-legal (a .c) (bytes st)), rw (c .go-round .ensures) moved)
 
 returns : tie.Need-returns
-returns c =
-    let st = c .before .before in
-    let a = st .args in
-    rw (c .tick-both .ensures, c .before .setting .ensures, ticks-apart (settingOf (a .c)) Divider)
-    (sym
-    (cycles-apart
-    (settingOf (a .c))
-    (a .m)
-    (st .pre .divider-high)
-    (a .n)
-    _
-    _
-    (omega arith)
-    (omega arith)))
+returns c = let st = c .before .before .before in let a = st .args in rw (c .tick-both .ensures, c .before .go-round .ensures, c .before .before .setting .ensures, ticks-apart (settingOf (a .c)) Divider) (sym (cycles-apart (settingOf (a .c)) (a .m) (st .pre .divider-high) (a .n) _ _ refl refl))
 
 pub span-spec : {M : Type 1} → statement M
-span-spec = tie.close (tie.spec add-sum add-k setting-requires tick-both-requires returns)
+span-spec = tie.close (tie.spec setting-requires go-round-requires tick-both-requires returns)

@@ -1,0 +1,3 @@
+pub mod Latches
+pub mod Steady
+pub mod Orders

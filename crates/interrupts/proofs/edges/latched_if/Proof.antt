@@ -1,0 +1,21 @@
+use borrow.Author.Needs.{needs}
+use Rattle.interrupts.proofs.edges.latched_if.Statement.{statement}
+use Rattle.interrupts.proofs.edges.latched_if.Tie as tie
+use Rattle.interrupts.proofs.edges.latched_if.Reads as reads
+use Rattle.interrupts.proofs.edges.latched_if.Lts as lts
+use Rattle.timers.proofs.requests.latch.Reads as latch-reads
+use Rattle.interrupts.specs.Edges.{latchedIf}
+
+latch-requires : tie.Need-latch-requires
+latch-requires c κs = search needs
+
+returns : tie.Need-returns
+unfolding latchedIf
+returns c = rw (c .latch .ensures, c .before .if1 .taken)
+
+returns-2 : tie.Need-returns-2
+unfolding latchedIf
+returns-2 c = rw (c .if1 .left)
+
+pub latched-if-spec : {M : Type 1} → statement M
+latched-if-spec = tie.close (tie.spec latch-requires returns returns-2)

@@ -1,0 +1,61 @@
+-- Falling edges of the Port 3 pins (01 "One step"; 004, 10.2.1). Assumes nothing.
+use mathlib.Core.Bool.{Bool, not, _&&_}
+use mathlib.Core.List.{List}
+use Prim.Native.Nat.{ℕ, _-_, _%_}
+use lib.Dec.{eqb}
+use lib.Bits.{bitAnd}
+use Rattle.word.specs.Choose.{pick}
+use Rattle.word.specs.Fields.{isSet}
+use Rattle.timers.specs.Requests.{latch}
+use Rattle.timers.specs.Control.{settingOf}
+use Rattle.timers.specs.Clock.{begun, edgeOf}
+use Rattle.timers.specs.declared.Moving.{Moving}
+use Rattle.timers.specs.declared.Spanned.{Spanned}
+use Rattle.machine.specs.State.{whole, withLast3}
+use Rattle.machine.specs.Clock.{controlOf, movingOf, movedTo}
+use Rattle.machine.specs.declared.Machine.{Machine}
+use Rattle.interrupts.specs.declared.edges.Compared.{Compared}
+
+-- pin n of Port 3 was high in the last pins, and is low in those given
+unfoldable pub fell : ℕ → ℕ → ℕ → Bool
+fell n last given = isSet n last && not (isSet n given)
+
+-- request n latched, where there was an edge
+unfoldable pub latchedIf : Bool → ℕ → ℕ → ℕ
+latchedIf edge n irq = pick edge (latch n irq) irq
+
+-- "falling edges on P32, P33, P31, P30 latch requests 0, 1, 2, 3": IRQ after them
+unfoldable pub latchedBy : ℕ → ℕ → ℕ → ℕ
+latchedBy last given irq =
+    let irq₀ = latchedIf (fell 2 last given) 0 irq in
+    let irq₁ = latchedIf (fell 3 last given) 1 irq₀ in
+    let irq₂ = latchedIf (fell 1 last given) 2 irq₁ in
+    latchedIf (fell 0 last given) 3 irq₂
+
+-- with another IRQ
+abbrev pub withIrq : Moving → ℕ → Moving
+withIrq x irq = record { divider = x .divider; t0 = x .t0; t1 = x .t1; lines = record { irq = irq; tout = x .lines .tout } }
+
+-- what the edges move: they latch, "and a P31 edge may tick T1"
+unfoldable pub movedByEdges : Machine → ℕ → Spanned
+movedByEdges m given =
+    let latched = withIrq (movingOf m) (latchedBy (m .last3) given (movingOf m .lines .irq)) in
+    pick (fell 1 (m .last3) given) (edgeOf (settingOf (controlOf m)) latched) (begun latched)
+
+-- a machine whose pins were compared, and T1's ends by that. (An edge never ticks T0: `edge-leaves-t0` of `timers`.)
+pub record Comparison : Type 0 where
+  pub machine : Machine
+  pub ends1 : ℕ
+
+-- "compare pins with the last; [the above]; the Port 3 byte given becomes the last"
+unfoldable pub comparedOf : Machine → ℕ → Comparison
+comparedOf m given =
+    let x = movedByEdges m given in
+    record { machine = withLast3 (movedTo m (x .now)) given; ends1 = x .ends1 }
+
+-- For the code: beside a lent file; and whether any of the four pins fell, in one test.
+abbrev pub comparisonOf : List ℕ → Compared → Comparison
+comparisonOf file c = record { machine = whole file (c .k); ends1 = c .ends1 }
+
+unfoldable pub anyFell : ℕ → ℕ → Bool
+anyFell last given = not (eqb (bitAnd (last % 16) (15 - given % 16)) 0)

@@ -1,0 +1,61 @@
+-- Which request is granted (01 "One step"; 004, 10.4; 002, R249 to R251). Assumes nothing.
+use mathlib.Core.List.{List, [], _∷_, _++_}
+use Prim.Native.Nat.{ℕ, _+_, _*_}
+use lib.Bits.{bitAnd}
+use lib.ListN.{getD}
+use Rattle.word.specs.Choose.{pick}
+use Rattle.word.specs.Fields.{bitOf, isSet}
+use Rattle.machine.specs.State.{held}
+use Rattle.machine.specs.declared.Machine.{Machine}
+use Rattle.interrupts.specs.declared.grants.Grant.{Grant}
+use Rattle.interrupts.specs.declared.grants.Grant.the-variants.{Nothing, Request}
+
+-- IPR's groups of two requests, the higher first: "group A from 5, B from 2, C from 1"
+unfoldable pub groupA : ℕ → List ℕ
+groupA ipr = pick (isSet 5 ipr) (3 ∷ 5 ∷ []) (5 ∷ 3 ∷ [])
+
+unfoldable pub groupB : ℕ → List ℕ
+groupB ipr = pick (isSet 2 ipr) (0 ∷ 2 ∷ []) (2 ∷ 0 ∷ [])
+
+unfoldable pub groupC : ℕ → List ℕ
+groupC ipr = pick (isSet 1 ipr) (4 ∷ 1 ∷ []) (1 ∷ 4 ∷ [])
+
+-- "the group order read from bits 4, 3, 0"
+abbrev pub groupOrder : ℕ → ℕ
+groupOrder ipr = bitOf 4 ipr * 4 + bitOf 3 ipr * 2 + bitOf 0 ipr
+
+-- three groups in the order of this number, as 002 lists them from 000 to 111: "a reserved group order (000 or 111) grants nothing"
+unfoldable pub ordered : ℕ → List ℕ → List ℕ → List ℕ → List ℕ
+ordered n a b c =
+    getD (
+    []
+    ∷ (c ++ a ++ b)
+    ∷ (a ++ b ++ c)
+    ∷ (a ++ c ++ b)
+    ∷ (b ++ c ++ a)
+    ∷ (c ++ b ++ a)
+    ∷ (b ++ a ++ c)
+    ∷ []
+    ∷ []
+    ) n []
+
+-- the requests by priority, the highest first
+unfoldable pub priorities : ℕ → List ℕ
+priorities ipr = ordered (groupOrder ipr) (groupA ipr) (groupB ipr) (groupC ipr)
+
+-- the first of these that stands
+unfoldable pub firstOf : List ℕ → ℕ → Grant
+firstOf [] standing = Nothing
+firstOf (n ∷ ns) standing = pick (isSet n standing) (Request n) (firstOf ns standing)
+
+-- "A grant needs IMR bit 7, the request and its mask bit." Priority is among requests whose mask bit is set.
+unfoldable pub granted : ℕ → ℕ → ℕ → Grant
+granted irq imr ipr = pick (isSet 7 imr) (firstOf (priorities ipr) (bitAnd irq imr)) Nothing
+
+unfoldable pub grantOf : Machine → Grant
+grantOf m = granted (held m 0xFA) (held m 0xFB) (held m 0xF9)
+
+-- For the code: the first grant, or else the second.
+unfoldable pub orElse : Grant → Grant → Grant
+orElse Nothing second = second
+orElse (Request n) second = Request n
