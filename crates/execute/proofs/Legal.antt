@@ -57,7 +57,7 @@ bit-small : (on : Bool) → bitsIf on 0x80 < 129
 bit-small true = lit< tt
 bit-small false = lit< tt
 
-interrupts-legal : {m : Machine} (on : Bool) → Legal m → Legal (interruptsTo m on)
+pub interrupts-legal : {m : Machine} (on : Bool) → Legal m → Legal (interruptsTo m on)
 unfolding interruptsTo
 interrupts-legal {m} on l = imr-may (held m 0xFB % 128 + bitsIf on 0x80) l (omega (arith, bit-small on))
 
@@ -103,7 +103,7 @@ abbrev pub FitStores : Stores → Type 0
 FitStores Nothing = Unit {0}
 FitStores (At a b) = (a < 65536) × AllBytes (listOf b)
 
-pushed-fits : (m : Machine) (b : Bytes) → AllBytes (listOf b) → FitStores (pushed m b .stores)
+pub pushed-fits : (m : Machine) (b : Bytes) → AllBytes (listOf b) → FitStores (pushed m b .stores)
 unfolding pushed pushedInside pushedOutside
 pushed-fits m b all = by-test (λ (s : Stacked). FitStores (s .stores)) (isInside m) (λ t. tt) (λ t. (omega arith, all))
 

@@ -1,3 +1,4 @@
 pub mod Latches
 pub mod Steady
 pub mod Orders
+pub mod Legal

@@ -12,7 +12,7 @@ use Rattle.timers.specs.Clock.{begun}
 use Rattle.machine.specs.State.{held, placed, withLast3}
 use Rattle.machine.specs.Clock.{movingOf, movedTo, countsAt}
 use Rattle.machine.specs.declared.Machine.{Machine}
-use Rattle.machine.proofs.Lens.{put-own, put-irq}
+use Rattle.machine.proofs.Lens.{put-own, put-irq, put-other}
 use Rattle.interrupts.specs.Edges.{Comparison, fell, latchedIf, latchedBy, movedByEdges, comparedOf, anyFell}
 
 -- the four pins are the lower four bits
@@ -62,3 +62,15 @@ pub requests-seen : (m : Machine) (given : ℕ) → length (m .regs) ≡ 256 →
     → held (comparedOf m given .machine) 0xFA ≡ movedByEdges m given .now .lines .irq
 unfolding comparedOf withLast3
 requests-seen m given long h = put-irq m long h (movedByEdges m given .now)
+
+-- what comparing the pins leaves: the program counter, type and entry cost, and every place but TMR and IRQ
+pub record Left (m n : Machine) : Type 0 where
+  pub pc-left : n .pc ≡ m .pc
+  pub kind-left : n .kind ≡ m .kind
+  pub cost-left : n .cost ≡ m .cost
+  pub place-left : (a : ℕ) → (a ≡ 0xF1 → ⊥) → (a ≡ 0xFA → ⊥) → held n a ≡ held m a
+
+pub compared-leaves : (m : Machine) (given : ℕ) → length (m .regs) ≡ 256 → held m 0xF1 < 256 → Left m (comparedOf m given .machine)
+unfolding comparedOf withLast3 movedTo placed countsAt
+compared-leaves m given long h =
+    record { pc-left = refl; kind-left = refl; cost-left = refl; place-left = put-other m long h (movedByEdges m given .now) }

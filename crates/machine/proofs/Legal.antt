@@ -53,7 +53,7 @@ pub irq-small : (v : ℕ) → v < 256 → T (mayHold 0xFA v) → v < 64
 unfolding mayHold
 irq-small v h t = ltb→lt v 64 (implied (mayHold 0xFA v) (ltb v 64) (at (λ x. not (mayHold 0xFA x) || ltb x 64) 256 tt v h) t)
 
-irq-fits : (v : ℕ) → v < 64 → T (mayHold 0xFA v)
+pub irq-fits : (v : ℕ) → v < 64 → T (mayHold 0xFA v)
 unfolding mayHold
 irq-fits v h = at (λ x. mayHold 0xFA x) 64 tt v h
 

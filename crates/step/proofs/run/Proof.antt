@@ -1,0 +1,39 @@
+use borrow.Author.Needs.{needs}
+use Rattle.step.proofs.run.Statement.{statement}
+use Rattle.step.proofs.run.Tie as tie
+use Rattle.step.proofs.run.Reads as reads
+use Rattle.step.proofs.run.Lts as lts
+use Rattle.machine.proofs.core_of.Reads as core-of-reads
+use Rattle.step.proofs.by_value.Reads as by-value-reads
+use Rattle.step.proofs.steps.Reads as steps-reads
+use Rattle.step.specs.Run.{budgetLimit, runOf}
+use native.Mathlib.Omega.{arith}
+use mathlib.Core.Path.{_≡_}
+use mathlib.Core.Bool.{true, false}
+use lib.Dec.{ltb}
+use borrow.Author.Tests.{lt-ltb, le-ltb}
+
+returns : tie.Need-returns
+unfolding runOf
+returns c = let over : ltb budgetLimit (c .before .before .before .args .budget) ≡ true = lt-ltb budgetLimit (c .before .before .before .args .budget) (c .if1 .taken) in rw over
+
+core-of-requires : tie.Need-core-of-requires
+core-of-requires c κs = search needs
+
+steps-requires : tie.Need-steps-requires
+steps-requires c κs = (rw (c .before .before .core-of .ensures) (c .before .before .before .before .before .before .before .pre), c .before .before .before .before .if1 .left)
+
+by-value-requires : tie.Need-by-value-requires
+by-value-requires c κs = search needs
+
+same-length : tie.Need-same-length
+same-length c = search needs
+
+returns-2 : tie.Need-returns-2
+unfolding runOf
+returns-2 c = let within : ltb budgetLimit (c .before .before .before .before .before .before .before .before .before .before .before .args .budget) ≡ false = le-ltb budgetLimit (c .before .before .before .before .before .before .before .before .before .before .before .args .budget) (c .before .before .before .before .before .before .before .before .if1 .left) in rw (c .by-value .ensures, c .before .before .before .steps .ensures, c .before .before .before .before .before .before .core-of .ensures, within)
+
+pub run-spec : {M : Type 1} → statement M
+run-spec =
+    tie.close
+    (tie.spec returns core-of-requires steps-requires by-value-requires same-length returns-2)

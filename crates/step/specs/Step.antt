@@ -1,0 +1,97 @@
+-- One step (01 "One step"). Assumes nothing.
+use mathlib.Core.List.{List}
+use Prim.Native.Nat.{ℕ, _+_}
+use lib.Dec.{eqb}
+use Rattle.word.specs.Choose.{pick}
+use Rattle.machine.specs.State.{whole}
+use Rattle.machine.specs.Clock.{spanOf}
+use Rattle.machine.specs.Stack.{Stacked}
+use Rattle.machine.specs.declared.Machine.{Machine}
+use Rattle.machine.specs.declared.Core.{Core}
+use Rattle.machine.specs.declared.Pins.{Pins}
+use Rattle.machine.specs.declared.Stores.the-variants.{Nothing}
+use Rattle.opcodes.specs.Instruction.{opcodeUndefined}
+use Rattle.opcodes.specs.declared.Kind.{Kind}
+use Rattle.deeds.specs.declared.Code.{Code}
+use Rattle.execute.specs.Execute.{Execution, refusedOf, executionOf, memoryAfter, performOf, executeOf}
+use Rattle.interrupts.specs.Edges.{Comparison, comparedOf}
+use Rattle.interrupts.specs.Grants.{grantOf}
+use Rattle.interrupts.specs.Entry.{enteredOf}
+use Rattle.interrupts.specs.declared.grants.Grant.{Grant}
+use Rattle.interrupts.specs.declared.grants.Grant.the-variants as grant
+use Rattle.step.specs.declared.Acted.{Acted}
+use Rattle.step.specs.declared.Went.{Went}
+
+-- what a step or a run comes to: 0 or a refusal's number, its cycles, "each timer's ends, edge ends too", the machine, data memory
+pub record Progress : Type 0 where
+  pub refusal : ℕ
+  pub cycles : ℕ
+  pub ends0 : ℕ
+  pub ends1 : ℕ
+  pub machine : Machine
+  pub memory : List ℕ
+
+-- "An interrupt grant is a step of the entry cost"
+abbrev pub costingEntry : ℕ → Stacked → Execution
+costingEntry cost s = record { refusal = 0; cycles = cost; stores = s .stores; machine = s .machine }
+
+-- "Grant an interrupt, or else execute one instruction."
+unfoldable pub grantedOr : Pins → List ℕ → List ℕ → Machine → Grant → Execution
+grantedOr p image mem m grant.Nothing = executeOf p image mem m
+grantedOr p image mem m (grant.Request n) = costingEntry (m .cost) (enteredOf image m n)
+
+-- what is done on compared pins, and T1's ends by the edges
+pub record Action : Type 0 where
+  pub done : Execution
+  pub ends1 : ℕ
+
+-- An undefined opcode is met where nothing is granted, on the requests as they stand after the edges. "Nothing changed": then not the
+-- pins either.
+unfoldable pub actOn : Machine → Comparison → Execution → Action
+actOn m c x = pick (eqb (x .refusal) 0) (record { done = x; ends1 = c .ends1 }) (record { done = refusedOf m; ends1 = 0 })
+
+unfoldable pub actionOf : Pins → List ℕ → List ℕ → Machine → Action
+actionOf p image mem m =
+    let c = comparedOf m (p .port3) in
+    actOn m c (grantedOr p image mem (c .machine) (grantOf (c .machine)))
+
+-- "Advance the clock by its cost", by single cycles. A refusal costs none.
+unfoldable pub clockedOn : Machine → List ℕ → Action → Progress
+clockedOn m mem a =
+    let x = a .done in
+    let r = spanOf (x .cycles) (x .machine) in
+    record {
+      refusal = x .refusal;
+      cycles = x .cycles;
+      ends0 = r .ends0;
+      ends1 = a .ends1 + r .ends1;
+      machine = r .machine;
+      memory = memoryAfter m mem x;
+    }
+
+-- one step
+unfoldable pub stepOf : Pins → List ℕ → List ℕ → Machine → Progress
+stepOf p image mem m = clockedOn m mem (actionOf p image mem m)
+
+-- for the code: the same beside a lent file and data memory
+abbrev pub actedOf : List ℕ → Acted → Action
+actedOf file a = record { done = executionOf file (record { refusal = a .refusal; cycles = a .cycles; stores = a .stores; k = a .k }); ends1 = a .ends1 }
+
+abbrev pub progressOf : List ℕ → List ℕ → Went → Progress
+progressOf file mem w =
+    record { refusal = w .refusal; cycles = w .cycles; ends0 = w .ends0; ends1 = w .ends1; machine = whole file (w .k); memory = mem }
+
+abbrev pub refusedAct : Core → Acted
+refusedAct k = record { refusal = opcodeUndefined; cycles = 0; stores = Nothing; ends1 = 0; k = k }
+
+-- an instruction of this kind, an instruction, and a request, on compared pins
+unfoldable pub performedOn : Pins → List ℕ → List ℕ → Comparison → Kind → Code → Action
+performedOn p image mem c kind i = record { done = performOf p image mem (c .machine) kind i; ends1 = c .ends1 }
+
+unfoldable pub instructed : Pins → List ℕ → List ℕ → Machine → Action
+instructed p image mem m =
+    let c = comparedOf m (p .port3) in
+    actOn m c (executeOf p image mem (c .machine))
+
+unfoldable pub enteredOn : List ℕ → Comparison → ℕ → Action
+enteredOn image c n = record { done = costingEntry (c .machine .cost) (enteredOf image (c .machine) n); ends1 = c .ends1 }
