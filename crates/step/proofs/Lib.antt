@@ -1,3 +1,4 @@
 pub mod Good
 pub mod Acts
 pub mod Turns
+pub mod Theorems
