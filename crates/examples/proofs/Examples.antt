@@ -23,18 +23,24 @@ use Rattle.alu.specs.Conditions.{holdsOf}
 use Rattle.opcodes.specs.Map.{entryOf, opcodeMap}
 use Rattle.opcodes.specs.Instruction.{lengthOf}
 use Rattle.opcodes.specs.Cycles.{cyclesOf, cycleMap}
-use Rattle.machine.specs.State.{heldIn, placedIn, placed, withPc}
+use Rattle.machine.specs.State.{heldIn, placedIn, placed, withPc, withLast3}
 use Rattle.machine.specs.Registers.{readReg, writeReg}
 use Rattle.machine.specs.Addresses.{workingAt}
 use Rattle.machine.specs.Memory.{programByte}
+use Rattle.machine.specs.Stack.{pushed, pushedInside}
+use Rattle.machine.specs.Clock.{controlWith, controlOf, movingOf, enabling, countsAt, movedTo, seen, shown, cycleOf, spanOf}
 use Rattle.machine.specs.Start.{resetPlaces, newOf, standardOf}
 use Rattle.deeds.specs.Pages.{djnzDeed, jrDeed, deedOf, outcomeOf}
-use Rattle.execute.specs.Doing.{jumped, looped, doneOf}
+use Rattle.execute.specs.Doing.{jumped, looped, interruptsTo, doneOf}
 use Rattle.execute.specs.Execute.{codeAt, performOf, executeAs, executeOf}
+use Rattle.interrupts.specs.Edges.{fell, latchedIf, latchedBy, movedByEdges, comparedOf}
+use Rattle.interrupts.specs.Grants.{groupA, groupB, groupC, ordered, priorities, firstOf, granted, grantOf}
+use Rattle.interrupts.specs.Entry.{cleared, vectorOf, acknowledged, enteredOf}
+use Rattle.step.specs.Step.{grantedOr, actOn, actionOf, clockedOn, stepOf}
 use Rattle.examples.specs.Examples.{all, examples, resting, restingAt, registers, freshLoad, endsIn}
 
 pub examples-hold : T (all examples)
-unfolding examples laid packed addOf additionOf subOf subtractionOf differenceOf incOf decwOf sumOverflow differenceOverflow andOf logicFlags rlOf sraOf rotateFlags daOf byRows added afterAddition afterSubtraction dispOf movedBy iter latch orHighest setupOf dividerMovesT1 edgesMoveT1 settingOf kept tick ticked timerWritten endOf both cycle cycles toutWritten written heldIn placedIn placed withPc resetPlaces newOf standardOf readReg writeReg workingAt programByte entryOf opcodeMap lengthOf cyclesOf cycleMap holdsOf djnzDeed jrDeed deedOf outcomeOf jumped looped doneOf codeAt performOf executeAs executeOf
+unfolding examples laid packed addOf additionOf subOf subtractionOf differenceOf incOf decwOf sumOverflow differenceOverflow andOf logicFlags rlOf sraOf rotateFlags daOf byRows added afterAddition afterSubtraction dispOf movedBy iter latch orHighest setupOf dividerMovesT1 edgesMoveT1 settingOf kept tick ticked timerWritten endOf both cycle cycles toutWritten written heldIn placedIn placed withPc resetPlaces newOf standardOf readReg writeReg workingAt programByte entryOf opcodeMap lengthOf cyclesOf cycleMap holdsOf djnzDeed jrDeed deedOf outcomeOf jumped looped doneOf codeAt performOf executeAs executeOf withLast3 pushed pushedInside controlWith controlOf movingOf enabling countsAt movedTo seen shown cycleOf spanOf interruptsTo fell latchedIf latchedBy movedByEdges comparedOf groupA groupB groupC ordered priorities firstOf granted grantOf cleared vectorOf acknowledged enteredOf grantedOr actOn actionOf clockedOn stepOf
 examples-hold = tt
 
 -- P 1, N 1, fresh load: by the formula, as the longest span is too long to be computed cycle by cycle

@@ -1,5 +1,4 @@
--- 01's proved examples, one list: each is a test on the definitions. That of IPR joins it with the room that says what it is about.
--- Assumes nothing.
+-- 01's proved examples, one list: each is a test on the definitions. Assumes nothing.
 use Prim.Native.Nat.{ℕ}
 use mathlib.Core.Bool.{Bool, true, false, _&&_}
 use mathlib.Core.List.{List, [], _∷_, _++_}
@@ -23,6 +22,7 @@ use Rattle.machine.specs.Start.{standardOf}
 use Rattle.machine.specs.declared.Machine.{Machine}
 use Rattle.machine.specs.declared.Pins.{Pins}
 use Rattle.execute.specs.Execute.{Execution, executeOf}
+use Rattle.step.specs.Step.{Progress, stepOf}
 
 -- the outcome stores this value, and makes of the FLAGS byte f this FLAGS byte
 abbrev pub after : Outcome → ℕ → ℕ → ℕ → Bool
@@ -69,6 +69,13 @@ djnz v left cycles =
     let x = executed (0x5A ∷ 0x10 ∷ []) (machineAt 0x0000 v) in
     eqb (held (x .machine) 0x05) left && eqb (x .cycles) cycles
 
+-- a new machine with these bytes in IPR, IMR and IRQ; and its step, of a program of NOPs whose vector at 000A, alone, holds 1234
+abbrev pub requesting : ℕ → ℕ → ℕ → Machine
+requesting ipr imr irq = placed (placed (placed standardOf 0xF9 ipr) 0xFB imr) 0xFA irq
+
+abbrev pub stepped : Machine → Progress
+stepped m = stepOf pins (replicate 10 0xFF ++ (0x12 ∷ 0x34 ∷ replicate 4 0xFF)) [] m
+
 -- every test holds
 abbrev pub all : List Bool → Bool
 all [] = true
@@ -99,6 +106,8 @@ examples =
     ∷ djnz 0 0xFF 12
     -- bytes 8B FE at 0010 jump to 0010
     ∷ eqb (executed (replicate 16 0xFF ++ (0x8B ∷ 0xFE ∷ [])) (machineAt 0x0010 0) .machine .pc) 0x0010
+    -- IPR 08, IMR BF, IRQ 3F takes vector 000A
+    ∷ eqb (stepped (requesting 0x08 0xBF 0x3F) .machine .pc) 0x1234
     -- P 3, N 2, fresh load, divider 0: 23 cycles no end, 24 one, 48 two
     ∷ eqb (endsIn 0 0x0D 0x02 23) 0
     ∷ eqb (endsIn 0 0x0D 0x02 24) 1

@@ -87,6 +87,7 @@ module _ (p : Pins) (image : List ℕ) (lp : LegalPins p) (li : AllRead image) w
       where
         test : r .refusal ≡ 0 → ltb (r .cycles) budget ≡ true → (eqb (r .refusal) 0 && ltb (r .cycles) budget) ≡ true
         test d h = rw (d, h)
+
         costs : (mem : List ℕ) (m : Machine) → Legal m → AllRead mem → stepOf p image mem m .cycles ≤ 63
         costs mem m l lm = go (step-good p image mem m l lp li lm)
           where

@@ -2,8 +2,8 @@ use Prim.Native.Nat.{_+_, _*_, _%_, _≤_}
 use native.Mathlib.Omega.{arith}
 use native.Mathlib.Nat.{mul-le-mul}
 use borrow.Author.Needs.{needs}
-use Rattle.instructions.proofs.draw.Statement.{statement}
-use Rattle.instructions.proofs.draw.Tie as tie
+use Rattle.steps.proofs.draw.Statement.{statement}
+use Rattle.steps.proofs.draw.Tie as tie
 
 mul-a : tie.Need-mul-a
 mul-a c = search needs

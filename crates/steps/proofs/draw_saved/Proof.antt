@@ -3,14 +3,14 @@ use mathlib.Core.Path.{_≡_, _∙_, refl}
 use Prim.Native.Nat.{_-_, _≤_}
 use native.Mathlib.Omega.{arith}
 use lib.ListN.{length, length-set}
-use Rattle.instructions.proofs.draw_saved.Statement.{statement}
-use Rattle.instructions.proofs.draw_saved.Tie as tie
+use Rattle.steps.proofs.draw_saved.Statement.{statement}
+use Rattle.steps.proofs.draw_saved.Tie as tie
 
 abbrev Inv-loop : tie.InvT-loop
-Inv-loop s₀ i k₀ s k = (k ≤ 268) × ((length s ≡ length s₀) × (268 ≤ length s₀))
+Inv-loop s₀ i pc k₀ s k = (k ≤ 268) × ((length s ≡ length s₀) × (268 ≤ length s₀))
 
 abbrev μ-loop : tie.MeasureT-loop
-μ-loop s₀ i k₀ s k = 268 - k
+μ-loop s₀ i pc k₀ s k = 268 - k
 
 loop-holds : tie.Need-loop-holds Inv-loop μ-loop
 loop-holds c = (omega arith, (refl, search needs))

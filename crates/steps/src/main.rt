@@ -1,8 +1,8 @@
-// The core's answers to questions about single instructions. What it writes has to be what the independent program
-// tests/reference/instructed.c writes, which shares nothing with the core but the questions.
+// The core's answers to questions about steps, runs and spans. What it writes has to be what the independent program
+// tests/reference/stepped.c writes, which shares nothing with the core but the questions.
 use libc::STDOUT_FILENO;
-use machine::Machine;
 use machine::Pins;
+use step::Stepped;
 ghost use Prim.Native.Nat.{_≤_};
 ghost use lib.ListN.{length};
 
@@ -78,14 +78,21 @@ fn stack_pointer(i: u32) -> u16 {
     }
 }
 
-// What place k holds: in half of the machines most general registers have the address of a port, a control register or a hole, and in
-// half RP names the first group or one of the last two.
-fn content(i: u32, k: u32) -> u8 {
+// What byte k holds: in half of the machines most general registers have the address of a port, a control register or a hole, in half RP
+// names the first group or one of the last two, and in half the timers are near their ends.
+fn content(i: u32, k: u32, pc: u16) -> u8 {
     let v = byte(i, k);
     let hard = draw(i, 313) % 2;
+    let soon = draw(i, 314) % 2;
     match k {
         0x04..=0x7F => if hard == 0 { special(v) } else { v },
+        0xF2..=0xF5 => if soon == 0 { v % 16 } else { v },
         0xFD => group(draw(i, 312), v),
+        0xFE => word::high_byte(stack_pointer(i)),
+        0xFF => word::low_byte(stack_pointer(i)),
+        256 => word::high_byte(pc),
+        257 => word::low_byte(pc),
+        259..=262 => if soon == 0 { v % 4 } else { v },
         _ => v,
     }
 }
@@ -109,26 +116,13 @@ fn group(choice: u32, v: u8) -> u8 {
     }
 }
 
-// A legal saved machine.
-fn draw_saved(s: &mut [u8], i: u32)
+// The saved machine drawn for question i, at this program counter: a legal one.
+fn draw_saved(s: &mut [u8], i: u32, pc: u16)
     requires { ⌜ 268 ≤ length (now s) ⌝ }
 {
     for k in 0..268u32 {
-        s[k as usize] = fitted(k, content(i, k));
+        s[k as usize] = fitted(k, content(i, k, pc));
     }
-}
-
-// The machine drawn for question i, at this program counter.
-fn drawn(i: u32, pc: u16) -> Machine {
-    let mut s = [0u8; 268];
-    draw_saved(&mut s, i);
-    let sp = stack_pointer(i);
-    s[0xFE] = word::high_byte(sp);
-    s[0xFF] = word::low_byte(sp);
-    s[256] = word::high_byte(pc);
-    s[257] = word::low_byte(pc);
-    let l = saved::load(&s);
-    l.machine
 }
 
 fn pins(i: u32) -> Pins {
@@ -146,6 +140,13 @@ fn draw_memory(mem: &mut [u8], i: u32) {
     }
 }
 
+// A program of drawn bytes.
+fn draw_program(image: &mut [u8], i: u32) {
+    for k in 0..image.len() {
+        image[k] = byte(i, (k % 1000 + 1000) as u32);
+    }
+}
+
 // A byte of the program, where there is a place for it.
 fn set_byte(image: &mut [u8], a: u16, v: u8) {
     let at = a as usize;
@@ -154,33 +155,55 @@ fn set_byte(image: &mut [u8], a: u16, v: u8) {
     }
 }
 
-// Executed at this place of the program.
-fn executed(i: u32, image: &[u8], pc: u16) -> u32 {
-    let m = drawn(i, pc);
-    let kind = m.kind;
-    let mut regs = m.regs;
-    let k = machine::core_of(m);
-    let mut mem = [0u8; 5000];
-    draw_memory(&mut mem, i);
-    let x = execute::execute(&mut regs, k, pins(i), image, &mem);
-    let stores = x.stores;
-    let after = x.k;
+// What a step or a run came to.
+fn told(r: Stepped, mem: &[u8]) -> u32 {
     let mut s = [0u8; 268];
-    saved::save(&mut s, machine::machine_of(regs, after));
-    machine::memory::store(kind, &mut mem, stores);
-    let h = mixed(mixed(0, x.refusal as u32), x.cycles as u32);
-    with_bytes(with_bytes(h, &s), &mem)
+    let m = r.machine;
+    saved::save(&mut s, m);
+    let h = mixed(mixed(0, r.refusal as u32), r.cycles);
+    let ends = mixed(mixed(h, r.ends0), r.ends1);
+    with_bytes(with_bytes(ends, &s), mem)
+}
+
+// A step at this place of the program.
+fn stepped(i: u32, image: &[u8], pc: u16) -> u32 {
+    let mut s = [0u8; 268];
+    draw_saved(&mut s, i, pc);
+    let l = saved::load(&s);
+    if l.refusal != 0 {
+        return 0;
+    }
+    let m = l.machine;
+    let mut mem = [0u8; 4200];
+    draw_memory(&mut mem, i);
+    let r = step::step(m, pins(i), image, &mut mem);
+    told(r, &mem)
+}
+
+// A run with this budget.
+fn ran(i: u32, image: &[u8], pc: u16, budget: u32) -> u32 {
+    let mut s = [0u8; 268];
+    draw_saved(&mut s, i, pc);
+    let l = saved::load(&s);
+    if l.refusal != 0 {
+        return 0;
+    }
+    let m = l.machine;
+    let mut mem = [0u8; 4200];
+    draw_memory(&mut mem, i);
+    let r = step::run(m, pins(i), image, &mut mem, budget);
+    told(r, &mem)
 }
 
 // Opcode i % 256 with drawn operands, in a program of 3,000 bytes, at its end too and past it.
-fn executes(i: u32) -> u32 {
+fn steps(i: u32) -> u32 {
     let mut image = [0u8; 3000];
     draw_memory(&mut image, i / 2);
     let pc = (draw(i, 311) % 3004) as u16;
     set_byte(&mut image, pc, (i % 256) as u8);
     set_byte(&mut image, word::plus(pc, 1), operand(i, 307));
     set_byte(&mut image, word::plus(pc, 2), operand(i, 309));
-    executed(i, &image, pc)
+    stepped(i, &image, pc)
 }
 
 // The same at the end of a program of 65,536 bytes.
@@ -191,13 +214,46 @@ fn wraps(i: u32) -> u32 {
     set_byte(&mut image, pc, (i % 256) as u8);
     set_byte(&mut image, word::plus(pc, 1), operand(i, 307));
     set_byte(&mut image, word::plus(pc, 2), operand(i, 309));
-    executed(i, &image, pc)
+    stepped(i, &image, pc)
+}
+
+// A run of a drawn program of 500 bytes, with a budget that is often 0 or a few cycles.
+fn runs(i: u32) -> u32 {
+    let mut image = [0u8; 500];
+    draw_program(&mut image, i);
+    let pc = (draw(i, 311) % 500) as u16;
+    let most = draw(i, 315) % 3 * 1000 + 3;
+    ran(i, &image, pc, draw(i, 316) % most)
+}
+
+// A run of a program of NOPs, with a budget about the limit.
+fn limits(i: u32) -> u32 {
+    let image = [0xFFu8; 16];
+    ran(i, &image, 0, 999998 + i % 6)
+}
+
+// A span of a machine, of any length.
+fn spans(i: u32) -> u32 {
+    let mut s = [0u8; 268];
+    draw_saved(&mut s, i, 0);
+    let l = saved::load(&s);
+    if l.refusal != 0 {
+        return 0;
+    }
+    let m = l.machine;
+    let x = step::span(m, draw(i, 317) % 5000);
+    let n = x.machine;
+    saved::save(&mut s, n);
+    with_bytes(mixed(mixed(0, x.ends0), x.ends1), &s)
 }
 
 fn asked(question: u8, i: u32) -> u32 {
     match question {
-        0 => executes(i),
-        _ => wraps(i),
+        0 => steps(i),
+        1 => wraps(i),
+        2 => runs(i),
+        3 => limits(i),
+        _ => spans(i),
     }
 }
 
@@ -219,6 +275,9 @@ fn line(name: &[u8], question: u8, n: u32) {
 }
 
 fn main() {
-    line(b"executes", 0, 65536);
+    line(b"steps", 0, 65536);
     line(b"wraps", 1, 1024);
+    line(b"runs", 2, 8192);
+    line(b"limits", 3, 6);
+    line(b"spans", 4, 1024);
 }

@@ -3,8 +3,8 @@ use mathlib.Core.Path.{_≡_, refl}
 use Prim.Native.Nat.{_-_, _≤_}
 use native.Mathlib.Omega.{arith}
 use lib.ListN.{length}
-use Rattle.instructions.proofs.with_bytes.Statement.{statement}
-use Rattle.instructions.proofs.with_bytes.Tie as tie
+use Rattle.steps.proofs.with_bytes.Statement.{statement}
+use Rattle.steps.proofs.with_bytes.Tie as tie
 
 abbrev Inv-loop : tie.InvT-loop
 Inv-loop h s sum₀ k₀ k-end sum k = (k ≤ k-end) × (k-end ≡ length s)

@@ -1,7 +1,7 @@
 use borrow.Author.Needs.{needs}
 use Prim.Native.Nat.{_-_, _≤_}
-use Rattle.instructions.proofs.checksum.Statement.{statement}
-use Rattle.instructions.proofs.checksum.Tie as tie
+use Rattle.steps.proofs.checksum.Statement.{statement}
+use Rattle.steps.proofs.checksum.Tie as tie
 
 abbrev Inv-loop : tie.InvT-loop
 Inv-loop question n h₀ i₀ h i = i ≤ n

@@ -3,8 +3,8 @@ use mathlib.Core.Path.{_≡_, _∙_, refl}
 use Prim.Native.Nat.{_-_, _≤_}
 use native.Mathlib.Omega.{arith}
 use lib.ListN.{length, length-set}
-use Rattle.instructions.proofs.draw_memory.Statement.{statement}
-use Rattle.instructions.proofs.draw_memory.Tie as tie
+use Rattle.steps.proofs.draw_memory.Statement.{statement}
+use Rattle.steps.proofs.draw_memory.Tie as tie
 
 abbrev Inv-loop : tie.InvT-loop
 Inv-loop mem₀ i k₀ k-end mem k = (k ≤ k-end) × ((k-end ≡ length mem₀) × (length mem ≡ length mem₀))
