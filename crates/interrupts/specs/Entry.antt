@@ -1,4 +1,4 @@
--- The grant of a request (01 "One step"; 004, 10.6). Assumes nothing.
+-- The grant of a request (01 "One step"; 004, 10.3, 10.4.2 and 10.6). Assumes nothing.
 use mathlib.Core.Bool.{false}
 use mathlib.Core.List.{List}
 use Prim.Native.Nat.{ℕ, _+_, _-_, _*_, _^_}
@@ -17,10 +17,14 @@ unfoldable pub cleared : ℕ → ℕ → ℕ
 cleared n irq = bitAnd irq (255 - 2 ^ n)
 
 -- "the vector at twice its number, high byte first"
-unfoldable pub vectorOf : List ℕ → ℕ → ℕ
-vectorOf image n = wordOf (programByte image (2 * n)) (programByte image (2 * n + 1))
+abbrev pub vectorAt : ℕ → ℕ
+vectorAt n = 2 * n
 
--- what follows the push: "clears its request and bit 7 of IMR, and jumps", whatever the push has stored to IRQ and IMR
+unfoldable pub vectorOf : List ℕ → ℕ → ℕ
+vectorOf image n = wordOf (programByte image (vectorAt n)) (programByte image (vectorAt n + 1))
+
+-- what follows the push: "clears its request and bit 7 of IMR, and jumps", so they are clear also in bytes that the push has just stored
+-- to FA or FB
 unfoldable pub acknowledged : List ℕ → ℕ → Machine → Machine
 acknowledged image n m = withPc (interruptsTo (placed m 0xFA (cleared n (held m 0xFA))) false) (vectorOf image n)
 

@@ -1,4 +1,4 @@
--- Which request is granted (01 "One step"; 004, 10.4; 002, R249 to R251). Assumes nothing.
+-- Which request is granted (01 "One step"; 004, 10.3 and 10.4; 002, R249 to R251). Assumes nothing.
 use mathlib.Core.List.{List, [], _∷_, _++_}
 use Prim.Native.Nat.{ℕ, _+_, _*_}
 use lib.Bits.{bitAnd}
@@ -10,7 +10,8 @@ use Rattle.machine.specs.declared.Machine.{Machine}
 use Rattle.interrupts.specs.declared.grants.Grant.{Grant}
 use Rattle.interrupts.specs.declared.grants.Grant.the-variants.{Nothing, Request}
 
--- IPR's groups of two requests, the higher first: "group A from 5, B from 2, C from 1"
+-- IPR's groups of two requests, the higher first: "group A from 5, B from 2, C from 1". As 002 has it, IRQ5 > IRQ3 where bit 5 is 0,
+-- IRQ2 > IRQ0 where bit 2 is, IRQ1 > IRQ4 where bit 1 is.
 unfoldable pub groupA : ℕ → List ℕ
 groupA ipr = pick (isSet 5 ipr) (3 ∷ 5 ∷ []) (5 ∷ 3 ∷ [])
 
@@ -20,22 +21,31 @@ groupB ipr = pick (isSet 2 ipr) (0 ∷ 2 ∷ []) (2 ∷ 0 ∷ [])
 unfoldable pub groupC : ℕ → List ℕ
 groupC ipr = pick (isSet 1 ipr) (4 ∷ 1 ∷ []) (1 ∷ 4 ∷ [])
 
--- "the group order read from bits 4, 3, 0"
+-- "the group order read from bits 4, 3, 0". (004's Table 10-2 heads the middle column D2; its text has D3.)
 abbrev pub groupOrder : ℕ → ℕ
 groupOrder ipr = bitOf 4 ipr * 4 + bitOf 3 ipr * 2 + bitOf 0 ipr
 
--- three groups in the order of this number, as 002 lists them from 000 to 111: "a reserved group order (000 or 111) grants nothing"
+-- three groups in the order of this number, as 002 lists them: "a reserved group order (000 or 111) grants nothing (HOUSE)"
 unfoldable pub ordered : ℕ → List ℕ → List ℕ → List ℕ → List ℕ
 ordered n a b c =
     getD (
+    -- 000
     []
+    -- 001
     ∷ (c ++ a ++ b)
+    -- 010
     ∷ (a ++ b ++ c)
+    -- 011
     ∷ (a ++ c ++ b)
+    -- 100
     ∷ (b ++ c ++ a)
+    -- 101
     ∷ (c ++ b ++ a)
+    -- 110
     ∷ (b ++ a ++ c)
+    -- 111
     ∷ []
+    -- the end of the list
     ∷ []
     ) n []
 
@@ -43,12 +53,13 @@ ordered n a b c =
 unfoldable pub priorities : ℕ → List ℕ
 priorities ipr = ordered (groupOrder ipr) (groupA ipr) (groupB ipr) (groupC ipr)
 
--- the first of these that stands
+-- the first of these whose bit is set in `standing`
 unfoldable pub firstOf : List ℕ → ℕ → Grant
 firstOf [] standing = Nothing
 firstOf (n ∷ ns) standing = pick (isSet n standing) (Request n) (firstOf ns standing)
 
--- "A grant needs IMR bit 7, the request and its mask bit." Priority is among requests whose mask bit is set.
+-- "A grant needs IMR bit 7, the request and its mask bit." Standing are requests whose mask bit is set too, and priority is among them: "the
+-- highest priority level that is enabled" (004, 10.3).
 unfoldable pub granted : ℕ → ℕ → ℕ → Grant
 granted irq imr ipr = pick (isSet 7 imr) (firstOf (priorities ipr) (bitAnd irq imr)) Nothing
 

@@ -48,8 +48,8 @@ fn of_two(standing: u8, higher: u8, lower: u8) -> Grant
 fn of_group_a(standing: u8, ipr: u8) -> Grant
     ensures { λ r. ⌜ r ≡ firstOf (groupA ipr) standing ⌝ }
 {
-    let turned = word::is_set(5, ipr);
-    if turned {
+    let swapped = word::is_set(5, ipr);
+    if swapped {
         of_two(standing, 3, 5)
     } else {
         of_two(standing, 5, 3)
@@ -59,8 +59,8 @@ fn of_group_a(standing: u8, ipr: u8) -> Grant
 fn of_group_b(standing: u8, ipr: u8) -> Grant
     ensures { λ r. ⌜ r ≡ firstOf (groupB ipr) standing ⌝ }
 {
-    let turned = word::is_set(2, ipr);
-    if turned {
+    let swapped = word::is_set(2, ipr);
+    if swapped {
         of_two(standing, 0, 2)
     } else {
         of_two(standing, 2, 0)
@@ -70,8 +70,8 @@ fn of_group_b(standing: u8, ipr: u8) -> Grant
 fn of_group_c(standing: u8, ipr: u8) -> Grant
     ensures { λ r. ⌜ r ≡ firstOf (groupC ipr) standing ⌝ }
 {
-    let turned = word::is_set(1, ipr);
-    if turned {
+    let swapped = word::is_set(1, ipr);
+    if swapped {
         of_two(standing, 4, 1)
     } else {
         of_two(standing, 1, 4)

@@ -116,7 +116,7 @@ pub data Good (m : Machine) (mem : List ℕ) (s : Progress) : Type 0 where
   taken : Taken s → Good m mem s
 
 -- a refusal costs no cycle
-unclocked : (m : Machine) (mem : List ℕ) → clockedOn m mem (record { done = refusedOf m; ends1 = 0 }) ≡ nothingDone 5 m mem
+pub unclocked : (m : Machine) (mem : List ℕ) → clockedOn m mem (record { done = refusedOf m; ends1 = 0 }) ≡ nothingDone 5 m mem
 unfolding clockedOn spanOf storedIn
 unclocked m mem = rw (iter-zero cycleOf)
 

@@ -16,9 +16,18 @@ use Rattle.machine.specs.declared.Machine.{Machine}
 use Rattle.machine.specs.declared.Pins.{Pins}
 use Rattle.machine.proofs.Legal.{LegalPins}
 use Rattle.deeds.proofs.Fits.{AllRead}
-use Rattle.step.specs.Step.{Progress, stepOf}
+use Rattle.opcodes.specs.Map.{entryOf}
+use Rattle.opcodes.specs.declared.Entry.the-variants as entry
+use Rattle.opcodes.specs.declared.Kind.{Kind}
+use Rattle.machine.specs.Memory.{programByte}
+use Rattle.execute.specs.Execute.{codeAt, performOf}
+use Rattle.interrupts.specs.Edges.{comparedOf}
+use Rattle.interrupts.specs.Grants.{grantOf}
+use Rattle.interrupts.specs.declared.grants.Grant.the-variants as grant
+use Rattle.step.specs.Step.{Progress, Action, clockedOn, performedOn, enteredOn, stepOf}
 use Rattle.step.specs.Run.{nothingDone, further, goesOn, oneMore, stepsOf, budgetLimit, runOf}
-use Rattle.step.proofs.Good.{Taken, Good, step-good}
+use Rattle.step.proofs.Acts.{blank-refused, kind-performed, nothing-granted, request-granted}
+use Rattle.step.proofs.Good.{Taken, Good, unclocked, step-good}
 use Rattle.step.proofs.Good.Good.{refused, taken}
 
 -- five is a refusal
@@ -121,6 +130,22 @@ module _ (p : Pins) (image : List ℕ) (lp : LegalPins p) (li : AllRead image) w
           reaches : stepsOf p image mem m budget .refusal ≡ 0 → Dec (stepsOf p image mem m budget .cycles < budget) → budget ≤ stepsOf p image mem m budget .cycles
           reaches d (yes h) = ran .going d h
           reaches d (no n) = omega (arith, n)
+
+-- Refusal 5 is given exactly where nothing is granted, the edges counted, and the opcode is undefined.
+module _ (p : Pins) (image mem : List ℕ) (m : Machine) (l : Legal m) where
+  pub undefined-refused : grantOf (comparedOf m (p .port3) .machine) ≡ grant.Nothing → entryOf (programByte image (m .pc)) ≡ entry.Blank
+      → stepOf p image mem m ≡ nothingDone 5 m mem
+  unfolding stepOf codeAt
+  undefined-refused g e = ap (clockedOn m mem) (sym (nothing-granted p image mem m l g) ∙ blank-refused p image mem m l e) ∙ unclocked m mem
+
+  pub defined-taken : {k : Kind} → grantOf (comparedOf m (p .port3) .machine) ≡ grant.Nothing → entryOf (programByte image (m .pc)) ≡ entry.Of k
+      → stepOf p image mem m .refusal ≡ 0
+  unfolding stepOf clockedOn codeAt performedOn performOf
+  defined-taken g e = ap (λ (a : Action). a .done .refusal) (sym (nothing-granted p image mem m l g) ∙ kind-performed p image mem m l e)
+
+  pub granted-taken : {n : ℕ} → grantOf (comparedOf m (p .port3) .machine) ≡ grant.Request n → stepOf p image mem m .refusal ≡ 0
+  unfolding stepOf clockedOn enteredOn
+  granted-taken g = ap (λ (a : Action). a .done .refusal) (sym (request-granted p image mem m l g))
 
 -- "Budget 0 changes nothing", whatever the pins
 pub run-nothing : (p : Pins) (image mem : List ℕ) (m : Machine) → runOf p image mem m 0 ≡ nothingDone 0 m mem

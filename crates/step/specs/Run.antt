@@ -37,12 +37,13 @@ goesOn budget r s = pick (eqb (r .refusal) 0 && ltb (r .cycles) budget) (further
 unfoldable pub oneMore : Pins → List ℕ → ℕ → Progress → Progress
 oneMore p image budget r = goesOn budget r (stepOf p image (r .memory) (r .machine))
 
--- The definition's steps in turn. Each costs a cycle at least, so where the budget is reached, it is after as many turns at most
--- (`run-stops`); turns after the last step change nothing. "Budget 0 changes nothing."
+-- The definition's steps in turn. Each step of a legal machine costs at least one cycle, so as many turns as the budget has cycles are
+-- enough (`run-stops`); once the run has stopped, further turns change nothing. "Budget 0 changes nothing."
 unfoldable pub stepsOf : Pins → List ℕ → List ℕ → Machine → ℕ → Progress
 stepsOf p image mem m budget = iter budget (oneMore p image budget) (nothingDone 0 m mem)
 
--- refusal 4: "run budget over 1,000,000 cycles", "nothing changed"
+-- refusal 4: "run budget over 1,000,000 cycles", "nothing changed". (Those that come before it are about what a caller lends, and are given
+-- where it is lent.)
 abbrev pub budgetLimit : ℕ
 budgetLimit = 1000000
 

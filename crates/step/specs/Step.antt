@@ -31,22 +31,22 @@ pub record Progress : Type 0 where
   pub machine : Machine
   pub memory : List ℕ
 
--- "An interrupt grant is a step of the entry cost"
+-- "An interrupt grant is a step of the entry cost", whichever the stack is
 abbrev pub costingEntry : ℕ → Stacked → Execution
 costingEntry cost s = record { refusal = 0; cycles = cost; stores = s .stores; machine = s .machine }
 
--- "Grant an interrupt, or else execute one instruction."
+-- "Grant an interrupt, or else execute one instruction." A granted step looks at no opcode.
 unfoldable pub grantedOr : Pins → List ℕ → List ℕ → Machine → Grant → Execution
 grantedOr p image mem m grant.Nothing = executeOf p image mem m
 grantedOr p image mem m (grant.Request n) = costingEntry (m .cost) (enteredOf image m n)
 
--- what is done on compared pins, and T1's ends by the edges
+-- what is done on compared pins, and T1's ends by the edges alone
 pub record Action : Type 0 where
   pub done : Execution
   pub ends1 : ℕ
 
--- An undefined opcode is met where nothing is granted, on the requests as they stand after the edges. "Nothing changed": then not the
--- pins either.
+-- It is refused where nothing is granted, the edges counted, and the opcode is undefined; there is no other refusal. "Nothing changed": m is
+-- as before its pins were compared, with IRQ, TMR, T1, T_OUT and the last pins as they were.
 unfoldable pub actOn : Machine → Comparison → Execution → Action
 actOn m c x = pick (eqb (x .refusal) 0) (record { done = x; ends1 = c .ends1 }) (record { done = refusedOf m; ends1 = 0 })
 
@@ -55,7 +55,8 @@ actionOf p image mem m =
     let c = comparedOf m (p .port3) in
     actOn m c (grantedOr p image mem (c .machine) (grantOf (c .machine)))
 
--- "Advance the clock by its cost", by single cycles. A refusal costs none.
+-- "Advance the clock by its cost", by single cycles. What was stored to a timer has acted by then, and P31 is as in the pins given. A
+-- refusal costs nothing. (The machine m is asked for its type alone, which nothing changes.)
 unfoldable pub clockedOn : Machine → List ℕ → Action → Progress
 clockedOn m mem a =
     let x = a .done in
@@ -84,7 +85,7 @@ progressOf file mem w =
 abbrev pub refusedAct : Core → Acted
 refusedAct k = record { refusal = opcodeUndefined; cycles = 0; stores = Nothing; ends1 = 0; k = k }
 
--- an instruction of this kind, an instruction, and a request, on compared pins
+-- for the code: the pins compared, and then an instruction of this kind, whichever instruction is there, and a request
 unfoldable pub performedOn : Pins → List ℕ → List ℕ → Comparison → Kind → Code → Action
 performedOn p image mem c kind i = record { done = performOf p image mem (c .machine) kind i; ends1 = c .ends1 }
 

@@ -15,7 +15,7 @@ ghost use Rattle.machine.specs.Legal.{Legal};
 ghost use Rattle.machine.specs.Clock.{spanOf};
 ghost use Rattle.interrupts.specs.Edges.{comparedOf};
 ghost use Rattle.step.specs.Step.{actionOf, stepOf, actedOf, progressOf, refusedAct, performedOn, instructed, enteredOn};
-ghost use Rattle.step.specs.Run.{stepsOf, runOf, steppedOf, byValue, passedOf};
+ghost use Rattle.step.specs.Run.{budgetLimit, stepsOf, runOf, steppedOf, byValue, passedOf};
 
 // What was done on the pins given, beside the file that was lent, before the clock is advanced: 0 or a refusal's number, the cycles it
 // costs, what is to be stored in data memory, T1's ends by the edges, and the rest of the machine.
@@ -97,7 +97,7 @@ fn perform(
     }
 }
 
-// One instruction, where nothing is granted. The opcode is looked up before the pins are compared.
+// One instruction, where nothing is granted.
 fn instruct(regs: &mut [u8; 256], k: Core, pins: Pins, image: &[u8], mem: &[u8]) -> Acted
     requires { ⌜ Legal (whole (now regs) k) ⌝ }
     ensures { λ r. ⌜ actedOf (now (regs .exit)) r ≡ instructed pins (now (image .entry)) (now (mem .entry)) (whole (now (regs .entry)) k) ⌝ }
@@ -177,7 +177,7 @@ fn steps(
     budget: u32,
 ) -> Went
     requires { ⌜ Legal (whole (now regs) k) ⌝ }
-    requires { ⌜ budget ≤ 1000000 ⌝ }
+    requires { ⌜ budget ≤ budgetLimit ⌝ }
     ensures { λ r. ⌜ progressOf (now (regs .exit)) (now (mem .exit)) r ≡ stepsOf pins (now (image .entry)) (now (mem .entry)) (whole (now (regs .entry)) k) budget ⌝ }
 {
     let mut at = k;
