@@ -1,6 +1,8 @@
-// 01's examples: those that are proved stand in specs/Examples.antt as one list. Of the edges to run, this program runs the longest
-// span. What it writes has to be what the independent program tests/reference/edges.c writes.
+// 01's examples and edges, run: those that are proved stand in specs/Examples.antt as one list. What this program writes has to be what
+// the independent program tests/reference/edges.c writes. (Image lengths are looked at by what C calls.)
 use libc::STDOUT_FILENO;
+use machine::Machine;
+use machine::Pins;
 use timers::Control;
 use timers::Counting;
 use timers::Lines;
@@ -9,6 +11,160 @@ use timers::Timer;
 ghost use mathlib.Core.Path.{_≡_};
 ghost use Prim.Native.Nat.{_<_};
 ghost use Rattle.examples.specs.Examples.{resting};
+
+// 268 bytes of a new machine with these in R5 and FLAGS, at this program counter.
+fn fresh(r5: u8, flags: u8, pc: u8) -> [u8; 268] {
+    let m = Machine::standard();
+    let mut s = [0u8; 268];
+    saved::save(&mut s, m);
+    s[5] = r5;
+    s[0xFC] = flags;
+    s[257] = pc;
+    s
+}
+
+fn high() -> Pins {
+    Pins {
+        port0: 0xFF,
+        port1: 0xFF,
+        port2: 0xFF,
+        port3: 0xFF,
+    }
+}
+
+fn byte(name: &[u8], v: u8) {
+    io::write_all(STDOUT_FILENO, name);
+    io::print_hex(STDOUT_FILENO, v as u64, 2);
+}
+
+fn word(name: &[u8], v: u16) {
+    io::write_all(STDOUT_FILENO, name);
+    io::print_hex(STDOUT_FILENO, v as u64, 4);
+}
+
+fn count(name: &[u8], v: u32) {
+    io::write_all(STDOUT_FILENO, name);
+    io::print_decimal(STDOUT_FILENO, v as u64);
+}
+
+fn end() {
+    io::write_all(STDOUT_FILENO, b"\n");
+}
+
+// A step of the machine in these bytes, told by R4, R5, FLAGS, the program counter and its cycles.
+fn step_of(name: &[u8], s: &[u8], image: &[u8]) {
+    let l = saved::load(s);
+    if l.refusal != 0 {
+        return;
+    }
+    let m = l.machine;
+    let mut mem = [0u8; 1];
+    let r = step::step(m, high(), image, &mut mem);
+    let mut after = [0u8; 268];
+    let n = r.machine;
+    let pc = n.pc;
+    saved::save(&mut after, n);
+    io::write_all(STDOUT_FILENO, name);
+    byte(b": R4 ", after[4]);
+    byte(b" R5 ", after[5]);
+    byte(b" FLAGS ", after[0xFC]);
+    word(b" PC ", pc);
+    count(b" cycles ", r.cycles);
+    count(b" refusal ", r.refusal as u32);
+    end();
+}
+
+// An instruction on R5, from a FLAGS byte.
+fn instruction(name: &[u8], r5: u8, flags: u8, image: &[u8], pc: u8) {
+    let s = fresh(r5, flags, pc);
+    step_of(name, &s, image);
+}
+
+fn instructions() {
+    instruction(b"44 + 11", 0x44, 0xFC, &[0x06u8, 0x05, 0x11], 0);
+    instruction(b"7B AND C3", 0x7B, 0x70, &[0x56u8, 0x05, 0xC3], 0);
+    instruction(b"00 - 01", 0x00, 0x50, &[0x26u8, 0x05, 0x01], 0);
+    instruction(b"INC 7F", 0x7F, 0x40, &[0x20u8, 0x05], 0);
+    instruction(b"SRA 81", 0x81, 0x50, &[0xD0u8, 0x05], 0);
+    instruction(b"RL 40", 0x40, 0xC0, &[0x90u8, 0x05], 0);
+    instruction(b"DA 3C", 0x3C, 0x60, &[0x40u8, 0x05], 0);
+    instruction(b"DECW 0000", 0x00, 0x00, &[0x80u8, 0x04], 0);
+    instruction(b"DJNZ on 1", 0x01, 0x00, &[0x5Au8, 0x10], 0);
+    instruction(b"DJNZ on 0", 0x00, 0x00, &[0x5Au8, 0x10], 0);
+}
+
+// 8B FE at 0010.
+fn jump() {
+    let mut image = [0xFFu8; 18];
+    image[16] = 0x8B;
+    image[17] = 0xFE;
+    instruction(b"8B FE at 0010", 0, 0, &image, 0x10);
+}
+
+// IPR 08, IMR BF, IRQ 3F, with 1234 at 000A.
+fn grant() {
+    let mut s = fresh(0, 0, 0);
+    s[0xF9] = 0x08;
+    s[0xFB] = 0xBF;
+    s[0xFA] = 0x3F;
+    let mut image = [0xFFu8; 16];
+    image[10] = 0x12;
+    image[11] = 0x34;
+    step_of(b"IPR 08, IMR BF, IRQ 3F", &s, &image);
+}
+
+// T0's ends in n cycles, freshly loaded by PRE0 and its start byte.
+fn span(name: &[u8], pre0: u8, prescaler: u8, start: u8, n: u32) {
+    let mut s = fresh(0, 0, 0);
+    s[0xF1] = 0x02;
+    s[0xF4] = start;
+    s[0xF5] = pre0;
+    s[259] = prescaler;
+    s[260] = start;
+    let l = saved::load(&s);
+    if l.refusal != 0 {
+        return;
+    }
+    let m = l.machine;
+    let x = step::span(m, n);
+    io::write_all(STDOUT_FILENO, name);
+    count(b": ", n);
+    count(b" cycles, ends ", x.ends0);
+    end();
+}
+
+fn spans() {
+    span(b"P 3, N 2", 0x0D, 3, 2, 23);
+    span(b"P 3, N 2", 0x0D, 3, 2, 24);
+    span(b"P 3, N 2", 0x0D, 3, 2, 48);
+    span(b"P 64, N 256", 0x01, 64, 0, 65535);
+    span(b"P 64, N 256", 0x01, 64, 0, 65536);
+}
+
+// A machine made, or refusal 3.
+fn make(cost: u32) {
+    let made = Machine::make(11, cost);
+    count(b"entry cost ", cost);
+    count(b": refusal ", made.refusal as u32);
+    end();
+}
+
+// A run of a program with no bytes, which is all NOPs.
+fn run(budget: u32) {
+    let s = fresh(0, 0, 0);
+    let l = saved::load(&s);
+    if l.refusal != 0 {
+        return;
+    }
+    let m = l.machine;
+    let mut mem = [0u8; 1];
+    let image = [0xFFu8; 1];
+    let r = step::run(m, high(), &image, &mut mem, budget);
+    count(b"budget ", budget);
+    count(b": refusal ", r.refusal as u32);
+    count(b", cycles ", r.cycles);
+    end();
+}
 
 fn line(divider: u32, ends0: u32, ends1: u32) {
     io::write_all(STDOUT_FILENO, b"P 1, N 1, fresh load, ");
@@ -64,6 +220,17 @@ fn longest_span(divider: u32)
 }
 
 fn main() {
+    instructions();
+    jump();
+    grant();
+    spans();
+    make(5);
+    make(6);
+    make(63);
+    make(64);
+    run(0);
+    run(1000000);
+    run(1000001);
     longest_span(0);
     longest_span(1);
 }

@@ -157,13 +157,14 @@ fn step_in(regs: &mut [u8; 256], k: Core, pins: Pins, image: &[u8], mem: &mut [u
     let done = a.k;
     let c = machine::clock::span(regs, done, cycles);
     machine::memory::store(k.kind, mem, stores);
-    let after = c.k;
+    let clocked = c.k;
+    let ends1 = a.ends1 + c.ends1;
     Went {
         refusal: a.refusal,
         cycles,
         ends0: c.ends0,
-        ends1: a.ends1 + c.ends1,
-        k: after,
+        ends1,
+        k: clocked,
     }
 }
 
@@ -264,11 +265,13 @@ pub fn span(m: Machine, n: u32) -> Passed
     let mut regs = m.regs;
     let k = machine::core_of(m);
     let c = machine::clock::span(&mut regs, k, n);
+    let ends0 = c.ends0;
+    let ends1 = c.ends1;
     let after = c.k;
     let machine = machine::machine_of(regs, after);
     Passed {
-        ends0: c.ends0,
-        ends1: c.ends1,
+        ends0,
+        ends1,
         machine,
     }
 }

@@ -33,8 +33,8 @@ span-requires c κs = subst Legal (sym (ap (λ (a : Action). a .done .machine) (
 store-requires : tie.Need-store-requires
 store-requires c κs = search needs
 
-add-t19 : tie.Need-add-t19
-add-t19 c = let good = act-good (c .before .before .before .before .before .before .before .before .before .before .before .before .before .before .before .before .args .pins) (now (c .before .before .before .before .before .before .before .before .before .before .before .before .before .before .before .before .args .image)) (now (c .before .before .before .before .before .before .before .before .before .before .before .before .before .before .before .before .args .mem)) (whole (now (c .before .before .before .before .before .before .before .before .before .before .before .before .before .before .before .before .args .regs)) (c .before .before .before .before .before .before .before .before .before .before .before .before .before .before .before .before .args .k)) (c .before .before .before .before .before .before .before .before .before .before .before .before .before .before .before .before .pre) (pins-legal (c .before .before .before .before .before .before .before .before .before .before .before .before .before .before .before .before)) (read-any (now (c .before .before .before .before .before .before .before .before .before .before .before .before .before .before .before .before .args .image)) (λ i. omega (arith, c .before .before .before .before .before .before .before .before .before .before .before .before .before .before .before .shared-slice-known .given i))) (read-any (now (c .before .before .before .before .before .before .before .before .before .before .before .before .before .before .before .before .args .mem)) (λ i. omega (arith, c .before .before .before .before .before .before .before .before .before .before .before .before .before .before .slice-known .given i))) in let few = subst (λ (a : Action). a .ends1 ≤ 1) (sym (c .before .before .before .before .before .before .before .before .before .before .before .act .ensures)) (act-ends good) in let clock = subst (λ (a : Action). spanOf (a .done .cycles) (a .done .machine) .ends1 ≤ 63) (sym (c .before .before .before .before .before .before .before .before .before .before .before .act .ensures)) (act-clock (c .before .before .before .before .before .before .before .before .before .before .before .before .before .before .before .before .pre) good) in let ends = ap (λ (r : Ran). r .ends1) (c .before .before .before .before .before .before .before .span .ensures) in omega (arith, few, clock, ends)
+add-ends1 : tie.Need-add-ends1
+add-ends1 c = let good = act-good (c .before .before .before .before .before .before .before .before .before .before .before .before .before .before .before .before .args .pins) (now (c .before .before .before .before .before .before .before .before .before .before .before .before .before .before .before .before .args .image)) (now (c .before .before .before .before .before .before .before .before .before .before .before .before .before .before .before .before .args .mem)) (whole (now (c .before .before .before .before .before .before .before .before .before .before .before .before .before .before .before .before .args .regs)) (c .before .before .before .before .before .before .before .before .before .before .before .before .before .before .before .before .args .k)) (c .before .before .before .before .before .before .before .before .before .before .before .before .before .before .before .before .pre) (pins-legal (c .before .before .before .before .before .before .before .before .before .before .before .before .before .before .before .before)) (read-any (now (c .before .before .before .before .before .before .before .before .before .before .before .before .before .before .before .before .args .image)) (λ i. omega (arith, c .before .before .before .before .before .before .before .before .before .before .before .before .before .before .before .shared-slice-known .given i))) (read-any (now (c .before .before .before .before .before .before .before .before .before .before .before .before .before .before .before .before .args .mem)) (λ i. omega (arith, c .before .before .before .before .before .before .before .before .before .before .before .before .before .before .slice-known .given i))) in let few = subst (λ (a : Action). a .ends1 ≤ 1) (sym (c .before .before .before .before .before .before .before .before .before .before .before .act .ensures)) (act-ends good) in let clock = subst (λ (a : Action). spanOf (a .done .cycles) (a .done .machine) .ends1 ≤ 63) (sym (c .before .before .before .before .before .before .before .before .before .before .before .act .ensures)) (act-clock (c .before .before .before .before .before .before .before .before .before .before .before .before .before .before .before .before .pre) good) in let ends = ap (λ (r : Ran). r .ends1) (c .before .before .before .before .before .before .before .span .ensures) in omega (arith, few, clock, ends)
 
 same-length : tie.Need-same-length
 same-length c = search needs
@@ -46,4 +46,4 @@ returns c = rw (← c .before .before .before .before .before .before .before .b
 pub step-in-spec : {M : Type 1} → statement M
 step-in-spec =
     tie.close
-    (tie.spec act-requires cast-cycles span-requires store-requires add-t19 same-length returns)
+    (tie.spec act-requires cast-cycles span-requires store-requires add-ends1 same-length returns)

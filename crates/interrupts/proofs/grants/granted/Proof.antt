@@ -10,6 +10,7 @@ use Rattle.interrupts.proofs.Orders.{first-of-none}
 use borrow.Author.Tests.{not-true, not-false}
 use Rattle.word.specs.Fields.{isSet}
 use mathlib.Core.Path.{_≡_, sym, _∙_}
+use lib.Bits.{bitAnd}
 use mathlib.Core.Bool.{true, false}
 
 is-set-requires : tie.Need-is-set-requires
@@ -21,7 +22,7 @@ returns c = let off : isSet 7 (c .before .before .args .imr) ≡ false = sym (c 
 
 returns-2 : tie.Need-returns-2
 unfolding granted
-returns-2 c = let on : isSet 7 (c .before .before .before .args .imr) ≡ true = sym (c .before .before .is-set .ensures) ∙ not-false _ (c .before .if1 .left) in rw (on, c .if2 .taken, first-of-none)
+returns-2 c = let on : isSet 7 (c .before .before .before .args .imr) ≡ true = sym (c .before .before .is-set .ensures) ∙ not-false _ (c .before .if1 .left) in let none : bitAnd (c .before .before .before .args .irq) (c .before .before .before .args .imr) ≡ 0 = c .if2 .taken in rw (on, none, first-of-none)
 
 highest-requires : tie.Need-highest-requires
 highest-requires c κs = search needs
