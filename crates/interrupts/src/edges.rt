@@ -57,7 +57,8 @@ fn latched_by(last: u8, given: u8, irq: u8) -> u8
     latched_if(p30, 3, irq2)
 }
 
-// What the edges move.
+// What the edges move. It has two callers, so it stays out of line; each lends it a copy of the machine's rest, made where a pin fell, and
+// so the rest itself has no place in memory on the way where none did.
 fn moved(regs: &[u8; 256], k: Core, given: u8) -> Spanned
     requires { ⌜ Legal (whole (now regs) k) ⌝ }
     ensures { λ r. ⌜ r ≡ movedByEdges (whole (now (regs .entry)) k) given ⌝ }
@@ -93,7 +94,8 @@ pub fn requests(regs: &[u8; 256], k: Core, given: u8) -> u8
     if !any {
         return machine::registers::held(regs, 0xFA);
     }
-    let x = moved(regs, k, given);
+    let own = k;
+    let x = moved(regs, own, given);
     let now = x.now;
     let lines = now.lines;
     lines.irq
@@ -109,7 +111,8 @@ pub fn compare(regs: &mut [u8; 256], k: Core, given: u8) -> Compared
         let seen = machine::at_last3(k, given);
         return Compared { k: seen, ends1: 0 };
     }
-    let x = moved(regs, k, given);
+    let own = k;
+    let x = moved(regs, own, given);
     let now = x.now;
     let ends1 = x.ends1;
     let n = machine::clock::move_to(regs, k, now);

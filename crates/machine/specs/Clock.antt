@@ -7,6 +7,7 @@ use Rattle.timers.specs.Iter.{iter}
 use Rattle.timers.specs.Control.{settingOf, enable0, enable1, kept}
 use Rattle.timers.specs.Clock.{cycle, written}
 use Rattle.timers.specs.declared.Control.{Control}
+use Rattle.timers.specs.declared.Timer.{Timer}
 use Rattle.timers.specs.declared.Moving.{Moving}
 use Rattle.timers.specs.declared.Spanned.{Spanned}
 use Rattle.machine.specs.Ports.{bitsIf}
@@ -38,18 +39,21 @@ unfoldable pub enabling : ℕ → Bool → Bool → ℕ
 enabling tmr on0 on1 = bitOr (bitAnd tmr 0xF5) (bitOr (bitsIf on0 0x02) (bitsIf on1 0x08))
 
 -- a machine, as its rest and whole, with other counts: divider, both timers, T_OUT
-abbrev pub coreAt : Core → Moving → Core
-coreAt k x =
+abbrev pub countingAt : Core → ℕ → Timer → Timer → Bool → Core
+countingAt k divider t0 t1 tout =
     record {
       pc = k .pc;
-      divider = x .divider;
-      t0 = x .t0 .timer;
-      t1 = x .t1 .timer;
+      divider = divider;
+      t0 = t0;
+      t1 = t1;
       last3 = k .last3;
-      tout = x .lines .tout;
+      tout = tout;
       kind = k .kind;
       cost = k .cost;
     }
+
+abbrev pub coreAt : Core → Moving → Core
+coreAt k x = countingAt k (x .divider) (x .t0 .timer) (x .t1 .timer) (x .lines .tout)
 
 unfoldable pub countsAt : Machine → Moving → Machine
 countsAt m x = whole (m .regs) (coreAt (coreOf m) x)

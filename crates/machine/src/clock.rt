@@ -4,9 +4,10 @@ use timers::Control;
 use timers::Counting;
 use timers::Lines;
 use timers::Moving;
+use timers::Timer;
 ghost use mathlib.Core.Path.{_≡_};
 ghost use Rattle.machine.specs.State.{whole};
-ghost use Rattle.machine.specs.Clock.{controlWith, controlOf, movingOf, enabling, coreAt, movedTo, writeTmr, ranOf, spanOf};
+ghost use Rattle.machine.specs.Clock.{controlWith, controlOf, movingOf, enabling, coreAt, countingAt, movedTo, writeTmr, ranOf, spanOf};
 ghost use Rattle.machine.specs.Legal.{Legal};
 
 // A machine's rest, beside the file that was lent, and each timer's ends.
@@ -77,7 +78,23 @@ fn enabling(tmr: u8, on0: bool, on1: bool) -> u8
     (tmr & 0xF5) | (bit0 | bit1)
 }
 
-// The rest of a machine with these counts.
+// The rest of a machine with these counts and this T_OUT level.
+fn counting(k: Core, divider: u32, t0: Timer, t1: Timer, tout: bool) -> Core
+    ensures { λ r. ⌜ r ≡ countingAt k divider t0 t1 tout ⌝ }
+{
+    Core {
+        pc: k.pc,
+        divider,
+        t0,
+        t1,
+        last3: k.last3,
+        tout,
+        kind: k.kind,
+        cost: k.cost,
+    }
+}
+
+// The same with what cycles move.
 fn core_at(k: Core, x: Moving) -> Core
     ensures { λ r. ⌜ r ≡ coreAt k x ⌝ }
 {
@@ -86,16 +103,7 @@ fn core_at(k: Core, x: Moving) -> Core
     let lines = x.lines;
     let t0 = counting0.timer;
     let t1 = counting1.timer;
-    Core {
-        pc: k.pc,
-        divider: x.divider,
-        t0,
-        t1,
-        last3: k.last3,
-        tout: lines.tout,
-        kind: k.kind,
-        cost: k.cost,
-    }
+    counting(k, x.divider, t0, t1, lines.tout)
 }
 
 // The machine with all that cycles move as given.
@@ -124,23 +132,13 @@ pub fn write_tmr(regs: &mut [u8; 256], k: Core, v: u8) -> Core
     core_at(k, x)
 }
 
-// n cycles of a machine, by division: the long move. Mostly no count ends in them, and then the file is left alone.
-pub fn span(regs: &mut [u8; 256], k: Core, n: u32) -> Clocked
+// n cycles of a machine, by division: the long move. It has two callers, so it stays out of line (see `span`).
+pub fn long_span(regs: &mut [u8; 256], k: Core, n: u32) -> Clocked
     requires { ⌜ Legal (whole (now regs) k) ⌝ }
     ensures { λ r. ⌜ ranOf (now (regs .exit)) r ≡ spanOf n (whole (now (regs .entry)) k) ⌝ }
 {
     let c = control_of(regs, k);
     let m = moving_of(regs, k);
-    let short = timers::clock::is_short(c, m, n);
-    if short {
-        let x = timers::clock::shortly(c, m, n);
-        let after = core_at(k, x);
-        return Clocked {
-            k: after,
-            ends0: 0,
-            ends1: 0,
-        };
-    }
     let x = timers::clock::span(c, m, n);
     let ends0 = x.ends0;
     let ends1 = x.ends1;
@@ -150,5 +148,38 @@ pub fn span(regs: &mut [u8; 256], k: Core, n: u32) -> Clocked
         k: after,
         ends0,
         ends1,
+    }
+}
+
+// The same for few cycles, as a step costs: mostly no count ends in them, and then the file is left alone. What is lent to the long move is a
+// copy, and what comes back is put together from parts: so the rest of the machine has no place in memory on the short way (see
+// `registers::write`).
+pub fn span(regs: &mut [u8; 256], k: Core, n: u32) -> Clocked
+    requires { ⌜ Legal (whole (now regs) k) ⌝ }
+    ensures { λ r. ⌜ ranOf (now (regs .exit)) r ≡ spanOf n (whole (now (regs .entry)) k) ⌝ }
+{
+    let c = control_of(regs, k);
+    let m = moving_of(regs, k);
+    let x = timers::clock::few_cycles(c, m, n);
+    if x.few {
+        let t0 = x.t0;
+        let t1 = x.t1;
+        let after = counting(k, x.divider, t0, t1, k.tout);
+        return Clocked {
+            k: after,
+            ends0: 0,
+            ends1: 0,
+        };
+    }
+    let own = k;
+    let y = long_span(regs, own, n);
+    let moved = y.k;
+    let t0 = moved.t0;
+    let t1 = moved.t1;
+    let after = counting(k, moved.divider, t0, t1, moved.tout);
+    Clocked {
+        k: after,
+        ends0: y.ends0,
+        ends1: y.ends1,
     }
 }

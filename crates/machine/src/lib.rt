@@ -27,16 +27,17 @@ pub struct Machine {
     pub cost: u8,
 }
 
-// A machine but for its register file.
+// A machine but for its register file. The timers stand apart: side by side the compiler takes both into one wide register, and out again, at
+// every step.
 pub struct Core {
     pub pc: u16,
     pub divider: u32,
     pub t0: Timer,
-    pub t1: Timer,
     pub last3: u8,
     pub tout: bool,
     pub kind: u8,
     pub cost: u8,
+    pub t1: Timer,
 }
 
 // The pins of ports 0 to 3, as given with a call. They are no part of the machine.

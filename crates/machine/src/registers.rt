@@ -67,7 +67,8 @@ pub fn read_any(regs: &[u8; 256], k: Core, pins: Pins, a: u8) -> u8
     }
 }
 
-// What register a reads.
+// What register a reads. What is handed to `read_any`, which stays out of line, is a copy: a struct that is handed on has a place in memory,
+// and so the machine's rest has one only here, and none where a general register is read. It is the same in `write`.
 pub fn read(regs: &[u8; 256], k: Core, pins: Pins, a: u8) -> u8
     ensures { λ r. ⌜ r ≡ readReg pins (whole (now (regs .entry)) k) a ⌝ }
 {
@@ -75,7 +76,8 @@ pub fn read(regs: &[u8; 256], k: Core, pins: Pins, a: u8) -> u8
     if general {
         return held(regs, a);
     }
-    read_any(regs, k, pins, a)
+    let own = k;
+    read_any(regs, own, pins, a)
 }
 
 // A store of v to register a, whichever it is.
@@ -111,6 +113,7 @@ pub fn write(regs: &mut [u8; 256], k: Core, a: u8, v: u8) -> Core
         place(regs, a, v);
         return k;
     }
-    let n = write_any(regs, k, a, v);
+    let own = k;
+    let n = write_any(regs, own, a, v);
     crate::keeping(k, n)
 }

@@ -264,7 +264,7 @@ pub fn span(m: Machine, n: u32) -> Passed
 {
     let mut regs = m.regs;
     let k = machine::core_of(m);
-    let c = machine::clock::span(&mut regs, k, n);
+    let c = machine::clock::long_span(&mut regs, k, n);
     let ends0 = c.ends0;
     let ends1 = c.ends1;
     let after = c.k;

@@ -7,20 +7,27 @@ use native.Mathlib.Omega.{arith}
 use lib.Dec.{T, eqb}
 use borrow.Author.Tests.{ne-eqb}
 use Rattle.timers.specs.Iter.{iter}
-use Rattle.timers.specs.Timer.{more, ticks, isShort}
-use Rattle.timers.specs.Clock.{both, cycle, cycles, begun, atDivider, endOf, isShortSpan, shortSpan}
+use Rattle.word.specs.Choose.{pick}
+use Rattle.timers.specs.Timer.{moves, more, ticks, fewOf}
+use Rattle.timers.specs.Clock.{both, cycle, cycles, begun, atDivider, endOf, asBefore, fewCycles, LegalSetting, LegalMoving}
+use Rattle.timers.specs.declared.ticks.Counted.{Counted}
+use Rattle.timers.specs.declared.clock.Counts.{Counts}
 use Rattle.timers.specs.declared.Source.{Source}
 use Rattle.timers.specs.declared.Source.the-variants.{Divider}
 use Rattle.timers.specs.declared.Setting.{Setting}
 use Rattle.timers.specs.declared.Moving.{Moving}
 use Rattle.timers.specs.declared.Spanned.{Spanned}
 use Rattle.timers.proofs.Iterate.{iter-zero, iter-suc, iter-both}
-use Rattle.timers.proofs.Division.{ticks-zero, ticks-suc, ticks-shortly}
+use Rattle.timers.proofs.Division.{ticks-zero, ticks-suc, ticks-few}
 use Rattle.timers.proofs.Ends.{ends-swap}
 
 pub both-true : (a b : Bool) → a && b ≡ true → (a ≡ true) × (b ≡ true)
 both-true true b e = (refl, e)
 both-true false b e = (e, absurd (subst T (sym e) tt))
+
+pub and-true : (b : Bool) → b && true ≡ b
+and-true true = refl
+and-true false = refl
 
 module _ (s : Setting) where
   -- the ticks of both timers are the ticks of each, with what the ends did
@@ -99,11 +106,60 @@ module _ (s : Setting) where
       (cycles-are-ticks (begun m) h n
       ∙ ap (λ (x : Spanned). atDivider x ((m .divider + n) % 4)) (ticks-apart Divider m ((m .divider + n) / 4)))
 
-  -- so few cycles that each timer stays within this round of its prescaler
-  pub shortly-is : (n : ℕ) (m : Moving) → m .divider < 4 → isShortSpan s n m ≡ true → cycles s n m ≡ begun (shortSpan s n m)
-  unfolding isShortSpan shortSpan
-  shortly-is n m h t =
-      let k = (m .divider + n) / 4 in
-      let t0 : isShort Divider (s .t0) k (m .t0) ≡ true = both-true (isShort Divider (s .t0) k (m .t0)) (isShort Divider (s .t1) k (m .t1)) t .0 in
-      let t1 : isShort Divider (s .t1) k (m .t1) ≡ true = both-true (isShort Divider (s .t0) k (m .t0)) (isShort Divider (s .t1) k (m .t1)) t .1 in
-      rw (cycles-apart m h n k ((m .divider + n) % 4) refl refl, ticks-shortly Divider (s .t0) (m .t0) k t0, ticks-shortly Divider (s .t1) (m .t1) k t1, iter-zero (endOf (s .t0)), iter-zero (endOf (s .t1)))
+  -- so few cycles that no count ends: what they make of each timer, and of both
+  abbrev pub few0 : ℕ → Moving → Counted
+  few0 n m = fewOf (moves Divider (s .t0) (m .t0)) (s .t0 .p) ((m .divider + n) / 4) (m .t0 .timer)
+
+  abbrev pub few1 : ℕ → Moving → Counted
+  few1 n m = fewOf (moves Divider (s .t1) (m .t1)) (s .t1 .p) ((m .divider + n) / 4) (m .t1 .timer)
+
+  abbrev both-few : ℕ → Moving → Counts
+  both-few n m = record { few = true; divider = (m .divider + n) % 4; t0 = few0 n m .timer; t1 = few1 n m .timer }
+
+  abbrev pub counting : Moving → Counts → Moving
+  counting m x =
+      record {
+        divider = x .divider;
+        t0 = record { timer = x .t0; enabled = m .t0 .enabled };
+        t1 = record { timer = x .t1; enabled = m .t1 .enabled };
+        lines = m .lines;
+      }
+
+  pub few-is : (n : ℕ) (m : Moving) → LegalSetting s → LegalMoving m → fewCycles s n m .few ≡ true → cycles s n m ≡ begun (counting m (fewCycles s n m))
+  unfolding fewCycles
+  few-is n m ls lm f = go (few0 n m .few && few1 n m .few) refl f
+    where
+      go : (b : Bool) → few0 n m .few && few1 n m .few ≡ b → pick b (both-few n m) (asBefore m) .few ≡ true
+          → cycles s n m ≡ begun (counting m (pick b (both-few n m) (asBefore m)))
+      go true e t =
+          let k = (m .divider + n) / 4 in
+          let each = both-true (few0 n m .few) (few1 n m .few) e in
+          rw (
+            cycles-apart m (lm .divider-high) n k ((m .divider + n) % 4) refl refl,
+            ticks-few Divider (s .t0) (m .t0) k (ls .setup0) (lm .counting0) (each .0),
+            ticks-few Divider (s .t1) (m .t1) k (ls .setup1) (lm .counting1) (each .1),
+            iter-zero (endOf (s .t0)),
+            iter-zero (endOf (s .t1)),
+          )
+      go false e t = absurd (subst T (sym t) tt)
+
+  -- the same, case by case, as the code finds it
+  pub few-off : (n : ℕ) (m : Moving) → m .t0 .enabled ≡ false → m .t1 .enabled ≡ false
+      → _≡_ {A = Counts} (record { few = true; divider = (m .divider + n) % 4; t0 = m .t0 .timer; t1 = m .t1 .timer }) (fewCycles s n m)
+  unfolding fewCycles fewOf
+  few-off n m e0 e1 = rw (e0, e1)
+
+  module _ (n : ℕ) (m : Moving) (a0 : Counted) (is0 : a0 ≡ few0 n m) where
+    pub few-not0 : a0 .few ≡ false → asBefore m ≡ fewCycles s n m
+    unfolding fewCycles
+    few-not0 f = rw (← is0, f)
+
+    module _ (a1 : Counted) (is1 : a1 ≡ few1 n m) (f0 : a0 .few ≡ true) where
+      pub few-not1 : a1 .few ≡ false → asBefore m ≡ fewCycles s n m
+      unfolding fewCycles
+      few-not1 f = rw (← is0, ← is1, f0, f)
+
+      pub few-both : a1 .few ≡ true
+          → _≡_ {A = Counts} (record { few = true; divider = (m .divider + n) % 4; t0 = a0 .timer; t1 = a1 .timer }) (fewCycles s n m)
+      unfolding fewCycles
+      few-both f = rw (← is0, ← is1, f0, f)

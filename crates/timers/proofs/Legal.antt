@@ -27,11 +27,11 @@ use Rattle.timers.proofs.Iterate.{iter-keeps}
 use Rattle.timers.proofs.Latched.{latch-legal}
 
 -- a count whose field 0 stands for the highest is 1 to the highest
-highest-low : (top field : ℕ) → 0 < top → 0 < orHighest top field
+pub highest-low : (top field : ℕ) → 0 < top → 0 < orHighest top field
 unfolding orHighest
 highest-low top field h = by-test (λ (x : ℕ). 0 < x) (eqb field 0) (λ e. h) (λ e. let d : field ≡ 0 → ⊥ = eqb-false field 0 e in omega arith)
 
-highest-high : (top field : ℕ) → field ≤ top → orHighest top field ≤ top
+pub highest-high : (top field : ℕ) → field ≤ top → orHighest top field ≤ top
 unfolding orHighest
 highest-high top field h = by-test (λ (x : ℕ). x ≤ top) (eqb field 0) (λ e. le-refl top) (λ e. h)
 

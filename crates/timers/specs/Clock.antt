@@ -1,13 +1,13 @@
 -- The divider and both timers, one cycle at a time (01 "The timers", "One step"). Assumes nothing.
 use mathlib.Core.Path.{_≡_}
-use mathlib.Core.Bool.{Bool, true, not, _&&_, _||_}
+use mathlib.Core.Bool.{Bool, true, false, not, _&&_, _||_}
 use Prim.Native.Nat.{ℕ, _+_, _-_, _*_, _/_, _%_, _≤_, _<_}
 use lib.Dec.{eqb}
 use Rattle.word.specs.Choose.{pick}
 use Rattle.timers.specs.Iter.{iter}
 use Rattle.timers.specs.Requests.{latch}
 use Rattle.timers.specs.Control.{load0, enable0, load1, enable1, settingOf}
-use Rattle.timers.specs.Timer.{ticked, timerWritten, isShort, shortly, LegalSetup, LegalCounting}
+use Rattle.timers.specs.Timer.{moves, ticked, timerWritten, fewOf, LegalSetup, LegalCounting}
 use Rattle.timers.specs.declared.Control.{Control}
 use Rattle.timers.specs.declared.Source.{Source}
 use Rattle.timers.specs.declared.Source.the-variants.{Divider, Edges}
@@ -18,6 +18,7 @@ use Rattle.timers.specs.declared.Lines.{Lines}
 use Rattle.timers.specs.declared.Moving.{Moving}
 use Rattle.timers.specs.declared.Spanned.{Spanned}
 use Rattle.timers.specs.declared.clock.Round.{Round}
+use Rattle.timers.specs.declared.clock.Counts.{Counts}
 
 -- T_OUT the other way round, where the timer drives it
 abbrev pub flips : Bool → Bool → Bool
@@ -95,25 +96,20 @@ pub record LegalMoving (m : Moving) : Type 0 where
   pub counting1 : LegalCounting (m .t1)
   pub irq-high : m .lines .irq < 64
 
--- For the code: the ticks in n cycles and the divider after them; whether they leave both timers within this round of their prescalers,
--- and what they move then.
+-- For the code: the ticks in n cycles and the divider after them; whether they are so few that no count ends, and the divider and both
+-- counts then; where one ends, they are as before.
 abbrev pub roundOf : ℕ → ℕ → Round
 roundOf divider n = record { ticks = (divider + n) / 4; divider = (divider + n) % 4 }
 
-unfoldable pub isShortSpan : Setting → ℕ → Moving → Bool
-isShortSpan s n m =
-    let k = (m .divider + n) / 4 in
-    isShort Divider (s .t0) k (m .t0) && isShort Divider (s .t1) k (m .t1)
+abbrev pub asBefore : Moving → Counts
+asBefore m = record { few = false; divider = m .divider; t0 = m .t0 .timer; t1 = m .t1 .timer }
 
-unfoldable pub shortSpan : Setting → ℕ → Moving → Moving
-shortSpan s n m =
+unfoldable pub fewCycles : Setting → ℕ → Moving → Counts
+fewCycles s n m =
     let k = (m .divider + n) / 4 in
-    record {
-      divider = (m .divider + n) % 4;
-      t0 = shortly Divider (s .t0) k (m .t0);
-      t1 = shortly Divider (s .t1) k (m .t1);
-      lines = m .lines;
-    }
+    let a0 = fewOf (moves Divider (s .t0) (m .t0)) (s .t0 .p) k (m .t0 .timer) in
+    let a1 = fewOf (moves Divider (s .t1) (m .t1)) (s .t1 .p) k (m .t1 .timer) in
+    pick (a0 .few && a1 .few) (record { few = true; divider = (m .divider + n) % 4; t0 = a0 .timer; t1 = a1 .timer }) (asBefore m)
 
 -- For the theorems. The same with ends added; and either timer's part, as the closed formula speaks of either.
 abbrev pub added : Spanned → ℕ → ℕ → Spanned

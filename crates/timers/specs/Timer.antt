@@ -1,6 +1,6 @@
 -- One timer, T0 or T1 alike (01 "The timers"; 004 11.3). Assumes nothing.
-use mathlib.Core.Bool.{Bool, false, not, _&&_, _||_}
-use Prim.Native.Nat.{ℕ, _+_, _-_, _/_, _%_, _≤_, _<_}
+use mathlib.Core.Bool.{Bool, true, false, not, _&&_, _||_}
+use Prim.Native.Nat.{ℕ, _+_, _-_, _*_, _/_, _%_, _≤_, _<_}
 use lib.Dec.{ltb}
 use Rattle.word.specs.Choose.{pick}
 use Rattle.timers.specs.Iter.{iter}
@@ -9,6 +9,8 @@ use Rattle.timers.specs.declared.Source.the-variants.{Divider, Edges}
 use Rattle.timers.specs.declared.Setup.{Setup}
 use Rattle.timers.specs.declared.Counting.{Counting}
 use Rattle.timers.specs.declared.Ticked.{Ticked}
+use Rattle.timers.specs.declared.Timer.{Timer}
+use Rattle.timers.specs.declared.ticks.Counted.{Counted}
 
 -- the count at other numbers, and after the end of a single pass. These two and `timerWritten` alone make a count in progress.
 abbrev pub countAt : Counting → ℕ → ℕ → Counting
@@ -81,3 +83,19 @@ shortly by s k c = pick (moves by s c) (countAt c (c .timer .prescaler - k) (c .
 
 abbrev pub down : Counting → ℕ → ℕ → ℕ → Counting
 down c p rounds r = countAt c (p - r % p) (rounds - r / p)
+
+-- For the contracts of the short move: whether k ticks are so few that the count doesn't end, and the count after them; where it ends, as
+-- before. Of ticks that pass this round of the prescaler; and of any, which move the timer or don't.
+abbrev pub fewTo : ℕ → ℕ → Counted
+fewTo prescaler counter = record { few = true; timer = record { prescaler = prescaler; counter = counter } }
+
+unfoldable pub turnedOf : ℕ → ℕ → Timer → Counted
+turnedOf p k t =
+    let past = k - t .prescaler in
+    pick (ltb past (p * (t .counter - 1))) (fewTo (p - past % p) (t .counter - 1 - past / p)) (record { few = false; timer = t })
+
+unfoldable pub fewOf : Bool → ℕ → ℕ → Timer → Counted
+fewOf moving p k t =
+    pick moving
+    (pick (ltb k (t .prescaler)) (fewTo (t .prescaler - k) (t .counter)) (turnedOf p k t))
+    (record { few = true; timer = t })

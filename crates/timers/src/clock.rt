@@ -6,14 +6,14 @@ use crate::Setting;
 use crate::Setup;
 use crate::Source;
 use crate::Spanned;
+use crate::Timer;
 ghost use mathlib.Core.Path.{_≡_};
-ghost use mathlib.Core.Bool.{true};
-ghost use Prim.Native.Nat.{_<_};
+ghost use Prim.Native.Nat.{_+_, _%_, _<_};
 ghost use Rattle.timers.specs.Iter.{iter};
 ghost use Rattle.timers.specs.Requests.{latch};
 ghost use Rattle.timers.specs.Control.{settingOf};
 ghost use Rattle.timers.specs.Timer.{LegalSetup};
-ghost use Rattle.timers.specs.Clock.{flips, endOf, both, begun, cycles, edgeOf, toutWritten, written, roundOf, isShortSpan, shortSpan, LegalSetting, LegalMoving};
+ghost use Rattle.timers.specs.Clock.{flips, endOf, both, begun, cycles, edgeOf, toutWritten, written, roundOf, asBefore, fewCycles, LegalSetting, LegalMoving};
 
 // IRQ after e ends that latch request n.
 fn raised(n: u8, irq: u8, e: u32) -> u8
@@ -107,43 +107,74 @@ pub fn span(c: Control, m: Moving, n: u32) -> Spanned
     tick_both(Source::Divider, s, from, d.ticks)
 }
 
-// Whether so few cycles pass that each timer stays within this round of its prescaler: mostly it is so, and then nothing moves but the
-// divider and the prescalers.
-pub fn is_short(c: Control, m: Moving, n: u32) -> bool
-    requires { ⌜ LegalMoving m ⌝ }
-    ensures { λ r. ⌜ r ≡ isShortSpan (settingOf c) n m ⌝ }
-{
-    let s = crate::registers::setting(c);
-    let s0 = s.t0;
-    let s1 = s.t1;
-    let c0 = m.t0;
-    let c1 = m.t1;
-    let d = go_round(m.divider, n);
-    let short0 = crate::ticks::is_short(Source::Divider, s0, c0, d.ticks);
-    let short1 = crate::ticks::is_short(Source::Divider, s1, c1, d.ticks);
-    short0 & short1
+// Whether some cycles were so few that no count ended, and the divider and both counts after them; where one ended, they are as before.
+pub struct Counts {
+    pub few: bool,
+    pub divider: u32,
+    pub t0: Timer,
+    pub t1: Timer,
 }
 
-// What n cycles move, where they are so few.
-pub fn shortly(c: Control, m: Moving, n: u32) -> Moving
-    requires { ⌜ LegalMoving m ⌝ }
-    requires { ⌜ isShortSpan (settingOf c) n m ≡ true ⌝ }
-    ensures { λ r. ⌜ r ≡ shortSpan (settingOf c) n m ⌝ }
+// The divider after n cycles.
+fn divider_after(divider: u32, n: u32) -> u32
+    requires { ⌜ divider < 4 ⌝ }
+    ensures { λ r. ⌜ r ≡ (divider + n) % 4 ⌝ }
 {
-    let s = crate::registers::setting(c);
-    let s0 = s.t0;
-    let s1 = s.t1;
+    (divider + n % 4) % 4
+}
+
+fn as_before(m: Moving) -> Counts
+    ensures { λ r. ⌜ r ≡ asBefore m ⌝ }
+{
     let c0 = m.t0;
     let c1 = m.t1;
-    let lines = m.lines;
+    let t0 = c0.timer;
+    let t1 = c1.timer;
+    let divider = m.divider;
+    Counts {
+        few: false,
+        divider,
+        t0,
+        t1,
+    }
+}
+
+// n cycles, where no count ends in them, as mostly none does. Each test stands before what is asked for after it, so that a timer that is
+// off, or stays within its prescaler's round, costs no more than to see that.
+pub fn few_cycles(c: Control, m: Moving, n: u32) -> Counts
+    requires { ⌜ LegalMoving m ⌝ }
+    ensures { λ r. ⌜ r ≡ fewCycles (settingOf c) n m ⌝ }
+{
+    let c0 = m.t0;
+    let c1 = m.t1;
+    if !c0.enabled & !c1.enabled {
+        let divider = divider_after(m.divider, n);
+        let t0 = c0.timer;
+        let t1 = c1.timer;
+        return Counts {
+            few: true,
+            divider,
+            t0,
+            t1,
+        };
+    }
     let d = go_round(m.divider, n);
-    let t0 = crate::ticks::shortly(Source::Divider, s0, c0, d.ticks);
-    let t1 = crate::ticks::shortly(Source::Divider, s1, c1, d.ticks);
-    Moving {
+    let a0 = crate::ticks::few_ticks(c0.enabled, c.pre0, c0, d.ticks);
+    if !a0.few {
+        return as_before(m);
+    }
+    let moves1 = crate::registers::moves_t1(c, c1.enabled);
+    let a1 = crate::ticks::few_ticks(moves1, c.pre1, c1, d.ticks);
+    if !a1.few {
+        return as_before(m);
+    }
+    let t0 = a0.timer;
+    let t1 = a1.timer;
+    Counts {
+        few: true,
         divider: d.divider,
         t0,
         t1,
-        lines,
     }
 }
 

@@ -3,7 +3,8 @@ use crate::Control;
 use crate::Setting;
 use crate::Setup;
 ghost use mathlib.Core.Path.{_≡_};
-ghost use Rattle.timers.specs.Control.{orHighest, setupOf, dividerMovesT1, edgesMoveT1, settingOf, kept};
+ghost use mathlib.Core.Bool.{_&&_};
+ghost use Rattle.timers.specs.Control.{orHighest, setupOf, internal, tinMode, p31, dividerMovesT1, edgesMoveT1, settingOf, kept};
 
 // A count whose field 0 stands for the highest: a prescaler field, a start byte, a saved counter.
 pub fn or_highest(top: u32, field: u8) -> u32
@@ -39,6 +40,22 @@ fn edges_move_t1(internal: bool, mode: u8) -> bool
     ensures { λ r. ⌜ r ≡ edgesMoveT1 internal mode ⌝ }
 {
     !internal && mode == 0
+}
+
+// Whether the divider's ticks move T1, by its enable bit. Test after test, since mostly the first or the second decides.
+pub fn moves_t1(c: Control, enabled: bool) -> bool
+    ensures { λ r. ⌜ r ≡ enabled && dividerMovesT1 (internal (c .pre1)) (tinMode (c .tmr)) (p31 (c .port3)) ⌝ }
+{
+    if !enabled {
+        return false;
+    }
+    let internal = word::is_set(1, c.pre1);
+    if internal {
+        return true;
+    }
+    let mode = c.tmr / 16 % 4;
+    let p31 = word::is_set(1, c.port3);
+    divider_moves_t1(internal, mode, p31)
 }
 
 pub fn setting(c: Control) -> Setting

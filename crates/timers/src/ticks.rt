@@ -6,8 +6,9 @@ use crate::Ticked;
 use crate::Timer;
 ghost use mathlib.Core.Path.{_≡_};
 ghost use mathlib.Core.Bool.{true};
-ghost use Prim.Native.Nat.{_*_, _≤_, _<_};
-ghost use Rattle.timers.specs.Timer.{countAt, takes, moves, stopped, isShort, shortly, down, ticks, timerWritten, LegalSetup, LegalCounting};
+ghost use Prim.Native.Nat.{_*_, _/_, _≤_, _<_};
+ghost use Rattle.timers.specs.Control.{orHighest};
+ghost use Rattle.timers.specs.Timer.{countAt, takes, moves, stopped, isShort, shortly, down, turnedOf, fewOf, ticks, timerWritten, LegalSetup, LegalCounting};
 
 // Whether the timer takes ticks from this source.
 fn takes(by: Source, s: Setup) -> bool
@@ -52,7 +53,7 @@ fn stopped(prescaler: u32) -> Counting
 }
 
 // Whether k ticks from this source leave the timer within this round of its prescaler, or don't move it.
-pub fn is_short(by: Source, s: Setup, c: Counting, k: u32) -> bool
+fn is_short(by: Source, s: Setup, c: Counting, k: u32) -> bool
     ensures { λ r. ⌜ r ≡ isShort by s k c ⌝ }
 {
     let timer = c.timer;
@@ -62,7 +63,7 @@ pub fn is_short(by: Source, s: Setup, c: Counting, k: u32) -> bool
 }
 
 // The count after so few ticks: it has not ended.
-pub fn shortly(by: Source, s: Setup, c: Counting, k: u32) -> Counting
+fn shortly(by: Source, s: Setup, c: Counting, k: u32) -> Counting
     requires { ⌜ isShort by s k c ≡ true ⌝ }
     ensures { λ r. ⌜ r ≡ shortly by s k c ⌝ }
 {
@@ -96,6 +97,59 @@ fn down(c: Counting, p: u32, rounds: u32, r: u32) -> Counting
     let prescaler = p - turned;
     let counter = rounds - dropped;
     count_at(c, prescaler, counter)
+}
+
+// Whether some ticks were so few that the count didn't end, and the count after them; where it ended, it is as before.
+pub struct Counted {
+    pub few: bool,
+    pub timer: Timer,
+}
+
+// k ticks that pass this round of the prescaler, where they don't end the count.
+fn turned(p: u32, c: Counting, k: u32) -> Counted
+    requires { ⌜ 0 < p ⌝ }
+    requires { ⌜ p ≤ 64 ⌝ }
+    requires { ⌜ LegalCounting c ⌝ }
+    requires { ⌜ c .timer .prescaler ≤ k ⌝ }
+    ensures { λ r. ⌜ r ≡ turnedOf p k (c .timer) ⌝ }
+{
+    let before = c.timer;
+    let rounds = before.counter - 1;
+    let left = ticks_in(p, rounds);
+    let past = k - before.prescaler;
+    if past < left {
+        let after = down(c, p, rounds, past);
+        let timer = after.timer;
+        return Counted { few: true, timer };
+    }
+    Counted {
+        few: false,
+        timer: before,
+    }
+}
+
+// k ticks that move the timer, or don't, where they don't end the count. Mostly they stay within this round of the prescaler, so P is made
+// of its register, `pre`, where it is asked for and not before.
+pub fn few_ticks(moving: bool, pre: u8, c: Counting, k: u32) -> Counted
+    requires { ⌜ LegalCounting c ⌝ }
+    ensures { λ r. ⌜ r ≡ fewOf moving (orHighest 64 (pre / 4)) k (c .timer) ⌝ }
+{
+    let before = c.timer;
+    if !moving {
+        return Counted {
+            few: true,
+            timer: before,
+        };
+    }
+    if k < before.prescaler {
+        let timer = Timer {
+            prescaler: before.prescaler - k,
+            counter: before.counter,
+        };
+        return Counted { few: true, timer };
+    }
+    let p = crate::registers::or_highest(64, pre / 4);
+    turned(p, c, k)
 }
 
 // k ticks from this source, by division. They are few; or stay within this count; or pass its end, and the timer stops, or goes on from N

@@ -3,7 +3,7 @@ use Rattle.step.proofs.span.Statement.{statement}
 use Rattle.step.proofs.span.Tie as tie
 use Rattle.step.proofs.span.Reads as reads
 use Rattle.step.proofs.span.Lts as lts
-use Rattle.machine.proofs.clock.span.Reads as span-reads
+use Rattle.machine.proofs.clock.long_span.Reads as long-span-reads
 use Rattle.machine.proofs.core_of.Reads as core-of-reads
 use Rattle.machine.proofs.machine_of.Reads as machine-of-reads
 use mathlib.Core.Path.{ap, sym}
@@ -13,14 +13,14 @@ use Rattle.machine.specs.State.{whole}
 core-of-requires : tie.Need-core-of-requires
 core-of-requires c κs = search needs
 
-span-requires : tie.Need-span-requires
-span-requires c κs = rw (c .before .core-of .ensures) (c .before .before .before .pre)
+long-span-requires : tie.Need-long-span-requires
+long-span-requires c κs = rw (c .before .core-of .ensures) (c .before .before .before .pre)
 
 machine-of-requires : tie.Need-machine-of-requires
 machine-of-requires c κs = search needs
 
 returns : tie.Need-returns
-returns c = rw (c .machine-of .ensures, c .before .before .span .ensures, c .before .before .before .before .core-of .ensures)
+returns c = rw (c .machine-of .ensures, c .before .before .long-span .ensures, c .before .before .before .before .core-of .ensures)
 
 pub span-spec : {M : Type 1} → statement M
-span-spec = tie.close (tie.spec core-of-requires span-requires machine-of-requires returns)
+span-spec = tie.close (tie.spec core-of-requires long-span-requires machine-of-requires returns)

@@ -4,17 +4,16 @@ use Rattle.machine.proofs.clock.span.Tie as tie
 use Rattle.machine.proofs.clock.span.Reads as reads
 use Rattle.machine.proofs.clock.span.Lts as lts
 use Rattle.machine.proofs.clock.control_of.Reads as control-of-reads
-use Rattle.machine.proofs.clock.core_at.Reads as core-at-reads
-use Rattle.machine.proofs.clock.move_to.Reads as move-to-reads
+use Rattle.machine.proofs.clock.counting.Reads as counting-reads
+use Rattle.machine.proofs.clock.long_span.Reads as long-span-reads
 use Rattle.machine.proofs.clock.moving_of.Reads as moving-of-reads
-use Rattle.timers.proofs.clock.is_short.Reads as is-short-reads
-use Rattle.timers.proofs.clock.shortly.Reads as shortly-reads
-use Rattle.timers.proofs.clock.span.Reads as span-reads
+use Rattle.timers.proofs.clock.few_cycles.Reads as few-cycles-reads
 use mathlib.Core.Path.{sym, _∙_}
 use denote.Ref.{now}
 use Rattle.machine.specs.State.{whole}
-use Rattle.machine.specs.Clock.{shown, countsAt}
-use Rattle.machine.proofs.Lens.{span-is, span-shortly}
+use Rattle.machine.specs.Clock.{movingOf, countsAt}
+use Rattle.machine.proofs.Legal.{setting-of}
+use Rattle.machine.proofs.Lens.{span-few, span-own}
 
 control-of-requires : tie.Need-control-of-requires
 control-of-requires c κs = search needs
@@ -22,28 +21,24 @@ control-of-requires c κs = search needs
 moving-of-requires : tie.Need-moving-of-requires
 moving-of-requires c κs = search needs
 
-is-short-requires : tie.Need-is-short-requires
-is-short-requires c κs = rw (c .moving-of .ensures) (c .before .before .before .before .pre .moving)
+few-cycles-requires : tie.Need-few-cycles-requires
+few-cycles-requires c κs = rw (c .moving-of .ensures) (c .before .before .before .before .pre .moving)
 
-shortly-requires : tie.Need-shortly-requires
-shortly-requires c κs = (rw (c .before .before .moving-of .ensures) (c .before .before .before .before .before .before .pre .moving), sym (c .before .is-short .ensures) ∙ c .if1 .taken)
-
-core-at-requires : tie.Need-core-at-requires
-core-at-requires c κs = search needs
+counting-requires : tie.Need-counting-requires
+counting-requires c κs = search needs
 
 returns : tie.Need-returns
-unfolding countsAt
-returns c = let t = rw (c .before .before .before .before .moving-of .ensures, c .before .before .before .before .before .before .control-of .ensures) at (sym (c .before .before .before .is-short .ensures) ∙ c .before .before .if1 .taken) in rw (c .core-at .ensures, c .before .shortly .ensures, c .before .before .before .before .moving-of .ensures, c .before .before .before .before .before .before .control-of .ensures) (sym (span-shortly (whole (now (c .before .before .before .before .before .before .before .before .args .regs)) (c .before .before .before .before .before .before .before .before .args .k)) (c .before .before .before .before .before .before .before .before .pre .file .long) (c .before .before .before .before .before .before .before .before .pre .file .bytes 0xF1) (c .before .before .before .before .before .before .before .before .args .n) (c .before .before .before .before .before .before .before .before .pre .moving .divider-high) t))
+unfolding countsAt movingOf
+returns c = let x = rw (c .before .before .before .before .before .moving-of .ensures, c .before .before .before .before .before .before .before .control-of .ensures) at (c .before .before .before .before .few-cycles .ensures) in let few = rw x at (c .before .before .before .if1 .taken) in rw (c .counting .ensures, x) (sym (span-few (whole (now (c .before .before .before .before .before .before .before .before .before .args .regs)) (c .before .before .before .before .before .before .before .before .before .args .k)) (c .before .before .before .before .before .before .before .before .before .pre .file .long) (c .before .before .before .before .before .before .before .before .before .pre .file .bytes 0xF1) (c .before .before .before .before .before .before .before .before .before .args .n) (setting-of (c .before .before .before .before .before .before .before .before .before .pre)) (c .before .before .before .before .before .before .before .before .before .pre .moving) few))
 
-span-requires : tie.Need-span-requires
-span-requires c κs = rw (c .before .before .moving-of .ensures) (c .before .before .before .before .before .before .pre .moving)
+long-span-requires : tie.Need-long-span-requires
+long-span-requires c κs = search needs
 
-move-to-requires : tie.Need-move-to-requires
-move-to-requires c κs = search needs
+counting-requires-2 : tie.Need-counting-requires-2
+counting-requires-2 c κs = search needs
 
 returns-2 : tie.Need-returns-2
-unfolding shown
-returns-2 c = rw (c .move-to .ensures, c .before .before .before .span .ensures, c .before .before .before .before .before .before .moving-of .ensures, c .before .before .before .before .before .before .before .before .control-of .ensures) (sym (span-is (whole (now (c .before .before .before .before .before .before .before .before .before .before .args .regs)) (c .before .before .before .before .before .before .before .before .before .before .args .k)) (c .before .before .before .before .before .before .before .before .before .before .pre .file .long) (c .before .before .before .before .before .before .before .before .before .before .pre .file .bytes 0xF1) (c .before .before .before .before .before .before .before .before .before .before .args .n)))
+returns-2 c = rw (c .counting2 .ensures) (span-own (whole (now (c .before .before .before .before .before .before .before .before .before .before .before .before .args .regs)) (c .before .before .before .before .before .before .before .before .before .before .before .before .args .k)) (c .before .before .before .before .before .before .before .before .before .before .before .before .pre .file .long) (c .before .before .before .before .before .before .before .before .before .before .before .before .pre .file .bytes 0xF1) (c .before .before .before .before .before .before .before .before .before .before .before .before .args .n) _ _ (c .before .before .before .before .long-span .ensures))
 
 pub span-spec : {M : Type 1} → statement M
 span-spec =
@@ -51,10 +46,9 @@ span-spec =
     (tie.spec
     control-of-requires
     moving-of-requires
-    is-short-requires
-    shortly-requires
-    core-at-requires
+    few-cycles-requires
+    counting-requires
     returns
-    span-requires
-    move-to-requires
+    long-span-requires
+    counting-requires-2
     returns-2)

@@ -1,0 +1,38 @@
+use borrow.Author.Needs.{needs}
+use Rattle.timers.proofs.ticks.turned.Statement.{statement}
+use Rattle.timers.proofs.ticks.turned.Tie as tie
+use Rattle.timers.proofs.ticks.turned.Reads as reads
+use Rattle.timers.proofs.ticks.turned.Lts as lts
+use Rattle.timers.proofs.ticks.down.Reads as down-reads
+use Rattle.timers.proofs.ticks.ticks_in.Reads as ticks-in-reads
+use mathlib.Core.Path.{_≡_, sym, _∙_}
+use mathlib.Core.Bool.{true, false}
+use lib.Dec.{ltb}
+use native.Mathlib.Omega.{arith}
+use borrow.Author.Tests.{not-true, not-false, lt-ltb, le-ltb}
+use Prim.Native.Nat.{_-_, _*_, _<_, _≤_}
+use Rattle.timers.specs.Timer.{turnedOf}
+
+sub-rounds : tie.Need-sub-rounds
+sub-rounds c = search needs
+
+ticks-in-requires : tie.Need-ticks-in-requires
+ticks-in-requires c κs = search needs
+
+sub-past : tie.Need-sub-past
+sub-past c = search needs
+
+down-requires : tie.Need-down-requires
+down-requires c κs = search needs
+
+returns : tie.Need-returns
+unfolding turnedOf
+returns c = let a = c .before .before .before .before .before .before .before .args in let t = a .c .timer in let within : ltb (a .k - t .prescaler) (a .p * (t .counter - 1)) ≡ true = lt-ltb _ _ (rw (c .before .before .before .before .ticks-in .ensures) at (c .before .before .if1 .taken)) in rw (c .before .down .ensures, within)
+
+returns-2 : tie.Need-returns-2
+unfolding turnedOf
+returns-2 c = let a = c .before .before .before .before .before .args in let t = a .c .timer in let ended : ltb (a .k - t .prescaler) (a .p * (t .counter - 1)) ≡ false = le-ltb _ _ (rw (c .before .before .ticks-in .ensures) at (c .if1 .left)) in rw ended
+
+pub turned-spec : {M : Type 1} → statement M
+turned-spec =
+    tie.close (tie.spec sub-rounds ticks-in-requires sub-past down-requires returns returns-2)
