@@ -7,7 +7,6 @@ use native.Mathlib.Omega.{arith}
 use lib.Dec.{T, ltb}
 use borrow.Author.Tests.{lt-ltb, ltb-true, ltb-false}
 use Rattle.word.specs.Choose.{pick}
-use Rattle.word.proofs.Computed.{by-test}
 use Rattle.timers.specs.Iter.{iter}
 use Rattle.timers.specs.Timer.{countAt, stopped, noEnd, tick, moves, ticked, more, ticks, isShort, shortly, fewTo, turnedOf, fewOf, LegalSetup, LegalCounting}
 use Rattle.timers.specs.declared.Source.{Source}
