@@ -1,4 +1,4 @@
--- Falling edges of the Port 3 pins (01 "One step"; 004, 10.2.1). Assumes nothing.
+-- Falling edges of the Port 3 pins (01 "One step"; 004, 10.2.1 and 11.5). Assumes nothing.
 use mathlib.Core.Bool.{Bool, not, _&&_}
 use mathlib.Core.List.{List}
 use Prim.Native.Nat.{ℕ, _-_, _%_}
@@ -36,13 +36,13 @@ latchedBy last given irq =
 abbrev pub withIrq : Moving → ℕ → Moving
 withIrq x irq = record { divider = x .divider; t0 = x .t0; t1 = x .t1; lines = record { irq = irq; tout = x .lines .tout } }
 
--- what the edges move: they latch, "and a P31 edge may tick T1"
+-- what the edges move: they latch, "and a P31 edge may tick T1", as T1's setting has it (`edgesMoveT1`, `moves` of `timers`)
 unfoldable pub movedByEdges : Machine → ℕ → Spanned
 movedByEdges m given =
     let latched = withIrq (movingOf m) (latchedBy (m .last3) given (movingOf m .lines .irq)) in
     pick (fell 1 (m .last3) given) (edgeOf (settingOf (controlOf m)) latched) (begun latched)
 
--- a machine whose pins were compared, and T1's ends by that. (An edge never ticks T0: `edge-leaves-t0` of `timers`.)
+-- a machine whose pins were compared, and T1's ends by the edges alone. (An edge never ticks T0: `edge-leaves-t0` of `timers`.)
 pub record Comparison : Type 0 where
   pub machine : Machine
   pub ends1 : ℕ

@@ -1,4 +1,4 @@
-// Falling edges of the Port 3 pins. Nothing is stored until it is known that the step isn't refused: `requests` looks ahead.
+// Falling edges of the Port 3 pins. `requests` looks ahead and stores nothing, `compare` stores.
 use machine::Core;
 use timers::Lines;
 use timers::Spanned;
