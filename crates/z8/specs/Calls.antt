@@ -1,0 +1,150 @@
+-- What each call of the C library answers and leaves (01 "Numbers the encoder sees"): of all it was given, all that the caller can see
+-- afterwards. Assumes nothing.
+use mathlib.Core.List.{List, [], _∷_}
+use Prim.Native.Nat.{ℕ}
+use lib.Dec.{eqb, ltb}
+use lib.ListN.{length}
+use Rattle.word.specs.Choose.{pick}
+use Rattle.opcodes.specs.Instruction.{decodeOf, encodeOf}
+use Rattle.opcodes.specs.declared.Decoded.{Decoded}
+use Rattle.opcodes.specs.declared.Decoded.the-variants as decoded
+use Rattle.opcodes.specs.declared.Encoded.{Encoded}
+use Rattle.opcodes.specs.declared.Encoded.the-variants as encoded
+use Rattle.machine.specs.Clock.{spanOf}
+use Rattle.machine.specs.Start.{madeOf, standardOf, resetOf}
+use Rattle.machine.specs.declared.Pins.{Pins}
+use Rattle.execute.specs.Execute.{codeAt}
+use Rattle.saved.specs.Saved.{machineOf, savedOf, refusalOf}
+use Rattle.step.specs.Step.{Progress, stepOf}
+use Rattle.step.specs.Run.{budgetLimit, runOf}
+
+-- ---- what is lent, and what is left
+
+-- the number answered, and what a caller then finds in what it lent to be written
+pub record Answer (A : Type 0) : Type 0 where
+  pub number : ℕ
+  pub left : A
+
+abbrev pub answer : {A : Type 0} → ℕ → A → Answer A
+answer number left = record { number = number; left = left }
+
+-- to a step or a run: the saved machine, the data memory, and three numbers
+pub record Lent : Type 0 where
+  pub saved : List ℕ
+  pub memory : List ℕ
+  pub cycles : ℕ
+  pub ends0 : ℕ
+  pub ends1 : ℕ
+
+abbrev pub lent : List ℕ → List ℕ → ℕ → ℕ → ℕ → Lent
+lent saved memory cycles ends0 ends1 = record { saved = saved; memory = memory; cycles = cycles; ends0 = ends0; ends1 = ends1 }
+
+-- to a span: the saved machine and two numbers
+pub record LentSpan : Type 0 where
+  pub saved : List ℕ
+  pub ends0 : ℕ
+  pub ends1 : ℕ
+
+abbrev pub lentSpan : List ℕ → ℕ → ℕ → LentSpan
+lentSpan saved ends0 ends1 = record { saved = saved; ends0 = ends0; ends1 = ends1 }
+
+-- to decoding (opcode, operands, length) and encoding (three bytes, length): four numbers
+pub record Four : Type 0 where
+  pub one : ℕ
+  pub two : ℕ
+  pub three : ℕ
+  pub length : ℕ
+
+abbrev pub four : ℕ → ℕ → ℕ → ℕ → Four
+four one two three length = record { one = one; two = two; three = three; length = length }
+
+-- ---- refusals
+
+-- "The first that applies, tested in the order 7, 6, 1, 2, 3, 4, 5, 8, among those that the call can meet." A test that doesn't apply is 0;
+-- 7 and 6 are `refusalOf`, in that order.
+abbrev pub firstOf : List ℕ → ℕ
+firstOf [] = 0
+firstOf (n ∷ ns) = pick (eqb n 0) (firstOf ns) n
+
+-- "saved machine not 268 bytes"
+abbrev pub lengthRefusal : List ℕ → ℕ
+lengthRefusal saved = pick (eqb (length saved) 268) 0 7
+
+-- "program image over 65,536 bytes"
+abbrev pub imageRefusal : List ℕ → ℕ
+imageRefusal image = pick (ltb 65536 (length image)) 1 0
+
+-- "data memory over 65,536 bytes"
+abbrev pub memoryRefusal : List ℕ → ℕ
+memoryRefusal memory = pick (ltb 65536 (length memory)) 2 0
+
+-- "run budget over 1,000,000 cycles"
+abbrev pub budgetRefusal : ℕ → ℕ
+budgetRefusal budget = pick (ltb budgetLimit budget) 4 0
+
+-- "number alone, nothing changed": what was lent, where it is refused; else what the call does, and 0
+abbrev pub unlessRefused : {A : Type 0} → ℕ → A → A → Answer A
+unlessRefused refusal lent done = pick (eqb refusal 0) (answer 0 done) (answer refusal lent)
+
+-- ---- the calls
+
+-- a new machine: 7, 3
+unfoldable pub makeOf : ℕ → ℕ → List ℕ → Answer (List ℕ)
+makeOf kind cost saved =
+    let made = madeOf kind cost in
+    unlessRefused (firstOf (lengthRefusal saved ∷ made .refusal ∷ [])) saved (savedOf (made .machine))
+
+-- "type 11 and entry cost 20 unless others are named": 7
+unfoldable pub makeDefaultOf : List ℕ → Answer (List ℕ)
+makeDefaultOf saved = unlessRefused (lengthRefusal saved) saved (savedOf standardOf)
+
+-- reset: 7, 6
+unfoldable pub resetCallOf : List ℕ → Answer (List ℕ)
+resetCallOf saved = unlessRefused (refusalOf saved) saved (savedOf (resetOf (machineOf saved)))
+
+-- decoding: 1, 5. What stands at the address is decoded if the image isn't refused.
+abbrev pub decodedInto : Four → Decoded → Answer Four
+decodedInto lent (decoded.Instruction op first second length) = answer 0 (four op first second length)
+decodedInto lent (decoded.Refused n) = answer n lent
+
+unfoldable pub decodeCallOf : List ℕ → ℕ → Four → Answer Four
+decodeCallOf image at lent =
+    let i = codeAt image at in
+    pick (eqb (imageRefusal image) 0)
+    (decodedInto lent (decodeOf (i .op) (i .first) (i .second)))
+    (answer (imageRefusal image) lent)
+
+-- encoding: 8
+abbrev pub encodedInto : Four → Encoded → Answer Four
+encodedInto lent (encoded.Bytes length b0 b1 b2) = answer 0 (four b0 b1 b2 length)
+encodedInto lent (encoded.Refused n) = answer n lent
+
+unfoldable pub encodeCallOf : ℕ → ℕ → ℕ → Four → Answer Four
+encodeCallOf op first second lent = encodedInto lent (encodeOf op first second)
+
+-- what a step or a run comes to, in the places lent
+abbrev pub leftBy : Progress → Lent
+leftBy s = lent (savedOf (s .machine)) (s .memory) (s .cycles) (s .ends0) (s .ends1)
+
+-- a step: 7, 6, 1, 2, 5
+unfoldable pub stepCallOf : Pins → List ℕ → Lent → Answer Lent
+stepCallOf pins image l =
+    let s = stepOf pins image (l .memory) (machineOf (l .saved)) in
+    unlessRefused (firstOf (refusalOf (l .saved) ∷ imageRefusal image ∷ memoryRefusal (l .memory) ∷ s .refusal ∷ [])) l (leftBy s)
+
+-- a run: 7, 6, 1, 2, 4 with nothing changed. "5 [..] Run: state, memory, cycles and ends as after the steps done before"
+unfoldable pub runCallOf : Pins → List ℕ → ℕ → Lent → Answer Lent
+runCallOf pins image budget l =
+    let refusal = firstOf (refusalOf (l .saved) ∷ imageRefusal image ∷ memoryRefusal (l .memory) ∷ budgetRefusal budget ∷ []) in
+    let s = runOf pins image (l .memory) (machineOf (l .saved)) budget in
+    pick (eqb refusal 0) (answer (s .refusal) (leftBy s)) (answer refusal l)
+
+-- a span: 7, 6
+unfoldable pub spanCallOf : ℕ → LentSpan → Answer LentSpan
+spanCallOf n l =
+    let r = spanOf n (machineOf (l .saved)) in
+    unlessRefused (refusalOf (l .saved)) l (lentSpan (savedOf (r .machine)) (r .ends0) (r .ends1))
+
+-- for the code: the first of 7, 6, 1, 2, where the saved machine's own refusal, 7, 6 or 0, is known
+unfoldable pub admittedOf : ℕ → List ℕ → List ℕ → ℕ
+admittedOf refusal image memory = firstOf (refusal ∷ imageRefusal image ∷ memoryRefusal memory ∷ [])

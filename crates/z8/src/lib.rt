@@ -1,0 +1,229 @@
+// What a C program calls (include/z8.h). Any lengths, bytes and numbers get an answer: nothing is required here. What a caller lends
+// is loaded, handed to the rooms below by value, and saved again; a refused call returns before it writes.
+use machine::Machine;
+use machine::Pins;
+use opcodes::Decoded;
+use opcodes::Encoded;
+ghost use mathlib.Core.Path.{_≡_};
+ghost use Rattle.saved.specs.Saved.{refusalOf};
+ghost use Rattle.z8.specs.Calls.{answer, lent, lentSpan, four, admittedOf, makeOf, makeDefaultOf, resetCallOf, decodeCallOf, encodeCallOf, stepCallOf, runCallOf, spanCallOf};
+
+const SAVED_LEN: usize = 268;
+
+// The most bytes of a program image, and of a data memory.
+const MEMORY_MOST: usize = 65536;
+
+#[no_mangle]
+pub extern "C" fn z8_make(saved: &mut [u8], kind: u32, cost: u32) -> u32
+    ensures { λ r. ⌜ answer r (now (saved .exit)) ≡ makeOf kind cost (now (saved .entry)) ⌝ }
+{
+    if saved.len() != SAVED_LEN {
+        return 7;
+    }
+    let made = Machine::make(kind, cost);
+    if made.refusal != 0 {
+        return made.refusal as u32;
+    }
+    let m = made.machine;
+    saved::save(&mut *saved, m);
+    0
+}
+
+#[no_mangle]
+pub extern "C" fn z8_make_default(saved: &mut [u8]) -> u32
+    ensures { λ r. ⌜ answer r (now (saved .exit)) ≡ makeDefaultOf (now (saved .entry)) ⌝ }
+{
+    if saved.len() != SAVED_LEN {
+        return 7;
+    }
+    let m = Machine::standard();
+    saved::save(&mut *saved, m);
+    0
+}
+
+#[no_mangle]
+pub extern "C" fn z8_check(saved: &[u8]) -> u32
+    ensures { λ r. ⌜ r ≡ refusalOf (now (saved .entry)) ⌝ }
+{
+    let refusal = saved::check(saved);
+    refusal as u32
+}
+
+#[no_mangle]
+pub extern "C" fn z8_reset(saved: &mut [u8]) -> u32
+    ensures { λ r. ⌜ answer r (now (saved .exit)) ≡ resetCallOf (now (saved .entry)) ⌝ }
+{
+    let loaded = saved::load(&*saved);
+    if loaded.refusal != 0 {
+        return loaded.refusal as u32;
+    }
+    let m = loaded.machine;
+    let after = machine::start::reset(m);
+    saved::save(&mut *saved, after);
+    0
+}
+
+#[no_mangle]
+pub extern "C" fn z8_decode(
+    image: &[u8],
+    at: u16,
+    opcode: &mut u8,
+    first: &mut u8,
+    second: &mut u8,
+    length: &mut u8,
+) -> u32
+    ensures { λ r. ⌜ answer r (four (now (opcode .exit)) (now (first .exit)) (now (second .exit)) (now (length .exit))) ≡ decodeCallOf (now (image .entry)) at (four (now (opcode .entry)) (now (first .entry)) (now (second .entry)) (now (length .entry))) ⌝ }
+{
+    if MEMORY_MOST < image.len() {
+        return 1;
+    }
+    let i = execute::fetch(image, at);
+    let d = opcodes::instruction::decode(i.op, i.first, i.second);
+    match d {
+        Decoded::Refused(n) => n as u32,
+        Decoded::Instruction(op, a, b, n) => {
+            *opcode = op;
+            *first = a;
+            *second = b;
+            *length = n;
+            0
+        }
+    }
+}
+
+#[no_mangle]
+pub extern "C" fn z8_encode(
+    opcode: u8,
+    first: u8,
+    second: u8,
+    byte0: &mut u8,
+    byte1: &mut u8,
+    byte2: &mut u8,
+    length: &mut u8,
+) -> u32
+    ensures { λ r. ⌜ answer r (four (now (byte0 .exit)) (now (byte1 .exit)) (now (byte2 .exit)) (now (length .exit))) ≡ encodeCallOf opcode first second (four (now (byte0 .entry)) (now (byte1 .entry)) (now (byte2 .entry)) (now (length .entry))) ⌝ }
+{
+    let e = opcodes::instruction::encode(opcode, first, second);
+    match e {
+        Encoded::Refused(n) => n as u32,
+        Encoded::Bytes(n, b0, b1, b2) => {
+            *byte0 = b0;
+            *byte1 = b1;
+            *byte2 = b2;
+            *length = n;
+            0
+        }
+    }
+}
+
+// The first of 7, 6, 1 and 2 that applies, or 0.
+fn admitted(saved: u8, image: &[u8], memory: &[u8]) -> u32
+    ensures { λ r. ⌜ r ≡ admittedOf saved (now (image .entry)) (now (memory .entry)) ⌝ }
+{
+    if saved != 0 {
+        return saved as u32;
+    }
+    if MEMORY_MOST < image.len() {
+        return 1;
+    }
+    if MEMORY_MOST < memory.len() {
+        return 2;
+    }
+    0
+}
+
+#[no_mangle]
+pub extern "C" fn z8_step(
+    saved: &mut [u8],
+    image: &[u8],
+    memory: &mut [u8],
+    pins0: u8,
+    pins1: u8,
+    pins2: u8,
+    pins3: u8,
+    cycles: &mut u32,
+    ends0: &mut u32,
+    ends1: &mut u32,
+) -> u32
+    ensures { λ r. ⌜ answer r (lent (now (saved .exit)) (now (memory .exit)) (now (cycles .exit)) (now (ends0 .exit)) (now (ends1 .exit))) ≡ stepCallOf (record { port0 = pins0; port1 = pins1; port2 = pins2; port3 = pins3 }) (now (image .entry)) (lent (now (saved .entry)) (now (memory .entry)) (now (cycles .entry)) (now (ends0 .entry)) (now (ends1 .entry))) ⌝ }
+{
+    let loaded = saved::load(&*saved);
+    let refusal = admitted(loaded.refusal, image, &*memory);
+    if refusal != 0 {
+        return refusal;
+    }
+    let m = loaded.machine;
+    let pins = Pins {
+        port0: pins0,
+        port1: pins1,
+        port2: pins2,
+        port3: pins3,
+    };
+    let s = step::step(m, pins, image, &mut *memory);
+    if s.refusal != 0 {
+        return s.refusal as u32;
+    }
+    let after = s.machine;
+    saved::save(&mut *saved, after);
+    *cycles = s.cycles;
+    *ends0 = s.ends0;
+    *ends1 = s.ends1;
+    0
+}
+
+#[no_mangle]
+pub extern "C" fn z8_run(
+    saved: &mut [u8],
+    image: &[u8],
+    memory: &mut [u8],
+    pins0: u8,
+    pins1: u8,
+    pins2: u8,
+    pins3: u8,
+    budget: u32,
+    cycles: &mut u32,
+    ends0: &mut u32,
+    ends1: &mut u32,
+) -> u32
+    ensures { λ r. ⌜ answer r (lent (now (saved .exit)) (now (memory .exit)) (now (cycles .exit)) (now (ends0 .exit)) (now (ends1 .exit))) ≡ runCallOf (record { port0 = pins0; port1 = pins1; port2 = pins2; port3 = pins3 }) (now (image .entry)) budget (lent (now (saved .entry)) (now (memory .entry)) (now (cycles .entry)) (now (ends0 .entry)) (now (ends1 .entry))) ⌝ }
+{
+    let loaded = saved::load(&*saved);
+    let refusal = admitted(loaded.refusal, image, &*memory);
+    if refusal != 0 {
+        return refusal;
+    }
+    if step::BUDGET_LIMIT < budget {
+        return 4;
+    }
+    let m = loaded.machine;
+    let pins = Pins {
+        port0: pins0,
+        port1: pins1,
+        port2: pins2,
+        port3: pins3,
+    };
+    let s = step::run(m, pins, image, &mut *memory, budget);
+    let after = s.machine;
+    saved::save(&mut *saved, after);
+    *cycles = s.cycles;
+    *ends0 = s.ends0;
+    *ends1 = s.ends1;
+    s.refusal as u32
+}
+
+#[no_mangle]
+pub extern "C" fn z8_span(saved: &mut [u8], span: u32, ends0: &mut u32, ends1: &mut u32) -> u32
+    ensures { λ r. ⌜ answer r (lentSpan (now (saved .exit)) (now (ends0 .exit)) (now (ends1 .exit))) ≡ spanCallOf span (lentSpan (now (saved .entry)) (now (ends0 .entry)) (now (ends1 .entry))) ⌝ }
+{
+    let loaded = saved::load(&*saved);
+    if loaded.refusal != 0 {
+        return loaded.refusal as u32;
+    }
+    let m = loaded.machine;
+    let p = step::span(m, span);
+    let after = p.machine;
+    saved::save(&mut *saved, after);
+    *ends0 = p.ends0;
+    *ends1 = p.ends1;
+    0
+}

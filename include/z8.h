@@ -1,0 +1,166 @@
+/* z8.h: the Zilog Z8601 and Z8611 as a C library. Link with libz8.a (pkg-config name: z8).
+
+   A machine is an array of Z8_SAVED_LEN bytes that you own: you make it, hand it to every call, and may copy it, write it to a file
+   or send it away between calls. The library keeps no state, allocates nothing and reads no clock. Calls on different machines may be
+   made from any number of threads at once; one machine, or one data memory, belongs to one call at a time. An image is only read, so
+   all machines may share one.
+
+   Every function is proved to give, for every input, the one answer that its definition allows (docs/PROMISES.md). What is asked of
+   you, because C can't be held to it:
+
+     - a pointer to bytes points to as many as the length after it says; with length 0 it may be null;
+     - a pointer to a number points to one, and is never null;
+     - the bytes and numbers lent to one call don't overlap.
+
+   What a call answers is Z8_OK, or the number of a refusal. A refused call has changed no byte and no number that it was lent. The one
+   exception is a run refused with Z8_REFUSED_OPCODE: it leaves machine, data memory, cycles and ends as after the whole steps that
+   came before the undefined opcode (and cycles and ends 0 where there was none). */
+#ifndef Z8_H
+#define Z8_H
+
+#include <stddef.h>
+#include <stdint.h>
+
+#ifdef __cplusplus
+extern "C" {
+#endif
+
+#define Z8_VERSION_MAJOR 1
+#define Z8_VERSION_MINOR 0
+#define Z8_VERSION_PATCH 0
+#define Z8_VERSION "1.0.0"
+
+/* ---- Answers. Where several would apply, the first in the order 7, 6, 1, 2, 3, 4, 5, 8 is given. ---- */
+
+#define Z8_OK 0u
+#define Z8_REFUSED_IMAGE 1u       /* the program image is over Z8_IMAGE_MOST bytes */
+#define Z8_REFUSED_DATA 2u        /* the data memory is over Z8_DATA_MOST bytes */
+#define Z8_REFUSED_MAKING 3u      /* no such type, or no such entry cost, for a new machine */
+#define Z8_REFUSED_BUDGET 4u      /* the run's budget is over Z8_BUDGET_MOST cycles */
+#define Z8_REFUSED_OPCODE 5u      /* the opcode is one of the 25 undefined ones */
+#define Z8_REFUSED_MACHINE 6u     /* the bytes are no legal saved machine */
+#define Z8_REFUSED_LENGTH 7u      /* the saved machine is not Z8_SAVED_LEN bytes long */
+#define Z8_REFUSED_INSTRUCTION 8u /* what is to be encoded is none of the 231 instructions */
+
+/* ---- Limits ---- */
+
+#define Z8_IMAGE_MOST 65536u
+#define Z8_DATA_MOST 65536u
+#define Z8_BUDGET_MOST 1000000u
+#define Z8_OVERRUN_MOST 62u /* a run spends at most so many cycles more than its budget */
+
+#define Z8_TYPE_Z8601 1u  /* data memory begins at address 2,048 */
+#define Z8_TYPE_Z8611 11u /* data memory begins at address 4,096 */
+#define Z8_ENTRY_COST_LEAST 6u
+#define Z8_ENTRY_COST_MOST 63u
+#define Z8_DEFAULT_TYPE Z8_TYPE_Z8611
+#define Z8_DEFAULT_ENTRY_COST 20u
+
+/* ---- The saved machine ----
+
+   It is legal, and no call answers Z8_REFUSED_MACHINE to it, exactly where each byte is within what is said beside it, places 80 to EF
+   and F0 (hexadecimal) of the register file are zero, and so are bits 0 and 2 of TMR (F1), bits 6 and 7 of IRQ (FA) and bits 0 to 3 of
+   RP (FD). Every machine that a call leaves is legal. */
+
+#define Z8_SAVED_LEN 268u
+
+#define Z8_AT_REGISTERS 0u      /* 256 places in address order. 0 to 3: the ports' output latches. F2, F4: T0's, T1's start value */
+#define Z8_AT_PC 256u           /* program counter: the high byte, and after it the low byte */
+#define Z8_AT_DIVIDER 258u      /* cycles since the last tick: 0 to 3 */
+#define Z8_AT_T0_PRESCALER 259u /* 1 to 64 */
+#define Z8_AT_T0_COUNTER 260u   /* the count in progress; 0 stands for 256 */
+#define Z8_AT_T1_PRESCALER 261u /* 1 to 64 */
+#define Z8_AT_T1_COUNTER 262u   /* the count in progress; 0 stands for 256 */
+#define Z8_AT_PORT3 263u        /* the Port 3 pins of the last step */
+#define Z8_AT_T_OUT 264u        /* the T_OUT level: 0 or 1 */
+#define Z8_AT_TYPE 265u         /* Z8_TYPE_Z8601 or Z8_TYPE_Z8611 */
+#define Z8_AT_ENTRY_COST 266u   /* cycles of an interrupt's entry: 6 to 63 */
+#define Z8_AT_ZERO 267u         /* 0 */
+
+/* ---- Making, checking, resetting ---- */
+
+/* A new machine of that type and interrupt entry cost: as after a reset, with R4 to R127 zero.
+   Writes all of saved. Refuses with 7, 3. */
+uint32_t z8_make(uint8_t *saved, size_t saved_len, uint32_t type, uint32_t entry_cost);
+
+/* The same with Z8_DEFAULT_TYPE and Z8_DEFAULT_ENTRY_COST. Refuses with 7. */
+uint32_t z8_make_default(uint8_t *saved, size_t saved_len);
+
+/* Whether these bytes are a saved machine: Z8_OK, or 7, or 6. Changes nothing. */
+uint32_t z8_check(const uint8_t *saved, size_t saved_len);
+
+/* The reset pin. The program counter is then 000C, P01M 4D, P2M FF, the other control registers, the latches and the divider 0, T_OUT 1,
+   prescalers 64, counters saved as 0, the last pins all ones; R4 to R127, type and entry cost stay. Refuses with 7, 6. */
+uint32_t z8_reset(uint8_t *saved, size_t saved_len);
+
+/* ---- Instructions and their bytes ---- */
+
+/* The instruction at an address of the image. Addresses are modulo 65,536, and bytes past the image read FF. Writes the opcode, the two
+   operand bytes (0 where the instruction hasn't them) and the length, 1 to 3. Refuses with 1, 5. */
+uint32_t z8_decode(const uint8_t *image, size_t image_len, uint16_t at,
+                   uint8_t *opcode, uint8_t *first, uint8_t *second, uint8_t *length);
+
+/* An instruction's bytes, the unused ones 0, and its length, 1 to 3. Refuses with 8 an undefined opcode, and an operand that is not zero
+   where the instruction hasn't it. Whatever z8_decode gives, z8_encode takes back to the same bytes, and the other way round. */
+uint32_t z8_encode(uint8_t opcode, uint8_t first, uint8_t second,
+                   uint8_t *byte0, uint8_t *byte1, uint8_t *byte2, uint8_t *length);
+
+/* ---- Time ----
+
+   data is the external data memory from address 0; the type says where it begins to answer (Z8_TYPE_Z8601). pins0 to pins3 are the levels at
+   the pins of ports 0 to 3, which matter where a port bit is an input. */
+
+/* One step: the pins are compared with the last ones, an interrupt is granted or else one instruction executed, and the clock goes on by
+   what that costs. Writes the machine, what was stored in data memory, the cycles (6 to 63), and how often T0 and T1 ended.
+   Refuses with 7, 6, 1, 2, 5. */
+uint32_t z8_step(uint8_t *saved, size_t saved_len, const uint8_t *image, size_t image_len,
+                 uint8_t *data, size_t data_len,
+                 uint8_t pins0, uint8_t pins1, uint8_t pins2, uint8_t pins3,
+                 uint32_t *cycles, uint32_t *ends0, uint32_t *ends1);
+
+/* As many steps, with the pins held, as it takes for their cycles to reach the budget; budget 0 takes none. What it writes is what that
+   many calls of z8_step would have left, with the cycles and the ends summed. Refuses with 7, 6, 1, 2, 4, 5; with 5 as said at
+   the top of this file. */
+uint32_t z8_run(uint8_t *saved, size_t saved_len, const uint8_t *image, size_t image_len,
+                uint8_t *data, size_t data_len,
+                uint8_t pins0, uint8_t pins1, uint8_t pins2, uint8_t pins3, uint32_t budget,
+                uint32_t *cycles, uint32_t *ends0, uint32_t *ends1);
+
+/* The clock alone, for any number of cycles: divider, both timers, T_OUT, the requests that their ends latch. No instruction is executed
+   and no pins are compared; P31 is as in the last pins. One division, whatever the span. Refuses with 7, 6. */
+uint32_t z8_span(uint8_t *saved, size_t saved_len, uint32_t span,
+                 uint32_t *ends0, uint32_t *ends1);
+
+/* ---- An answer in words ---- */
+
+static inline const char *z8_answer_text(uint32_t answer)
+{
+    switch (answer) {
+    case Z8_OK:
+        return "done";
+    case Z8_REFUSED_IMAGE:
+        return "the program image is over 65,536 bytes";
+    case Z8_REFUSED_DATA:
+        return "the data memory is over 65,536 bytes";
+    case Z8_REFUSED_MAKING:
+        return "the type is not 1 or 11, or the interrupt entry cost is not 6 to 63";
+    case Z8_REFUSED_BUDGET:
+        return "the budget is over 1,000,000 cycles";
+    case Z8_REFUSED_OPCODE:
+        return "the opcode is undefined";
+    case Z8_REFUSED_MACHINE:
+        return "the saved machine is not legal";
+    case Z8_REFUSED_LENGTH:
+        return "the saved machine is not 268 bytes long";
+    case Z8_REFUSED_INSTRUCTION:
+        return "there is no such instruction";
+    default:
+        return "no answer of this library";
+    }
+}
+
+#ifdef __cplusplus
+}
+#endif
+
+#endif
