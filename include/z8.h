@@ -64,7 +64,7 @@ extern "C" {
 
 #define Z8_SAVED_LEN 268u
 
-#define Z8_AT_REGISTERS 0u      /* 256 places in address order. 0 to 3: the ports' output latches. F2, F4: T0's, T1's start value */
+#define Z8_AT_REGISTERS 0u      /* 256 places in address order. 0 to 3: the ports' output latches. F2, F4: start values of T1, T0 */
 #define Z8_AT_PC 256u           /* program counter: the high byte, and after it the low byte */
 #define Z8_AT_DIVIDER 258u      /* cycles since the last tick: 0 to 3 */
 #define Z8_AT_T0_PRESCALER 259u /* 1 to 64 */

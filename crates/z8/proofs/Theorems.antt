@@ -19,7 +19,7 @@ use Rattle.step.specs.Step.{Progress, stepOf}
 use Rattle.step.specs.Run.{runOf}
 use Rattle.step.proofs.Theorems.{step-legal, run-legal}
 use Rattle.z8.specs.Calls.{Answer, Lent, LentSpan, Four, answer, lentSpan, firstOf, lengthRefusal, imageRefusal, memoryRefusal, budgetRefusal, unlessRefused, leftBy, makeOf, makeDefaultOf, resetCallOf, decodeCallOf, encodeCallOf, stepCallOf, runCallOf, spanCallOf}
-use Rattle.z8.proofs.Refusals.{is-refused}
+use Rattle.z8.proofs.Refusals.{is-refused, is-done}
 
 -- ---- "Show that any two results allowed are equal": a contract is `answer n left ≡ x`, x made of all that was given.
 one-answer : {A : Type 0} (x : Answer A) (n n' : ℕ) (left left' : A) → answer n left ≡ x → answer n' left' ≡ x → (n ≡ n') × (left ≡ left')
@@ -85,6 +85,13 @@ pub run-untouched : (p : Pins) (image : List ℕ) (budget : ℕ) (given : Lent) 
     → runCallOf p image budget given ≡ answer n given
 unfolding runCallOf
 run-untouched p image budget given n e d = sym (is-refused _ given _ n e d)
+
+-- A run admitted leaves what its steps left, whether it stopped at 5 or not.
+pub run-keeps : (p : Pins) (image : List ℕ) (budget : ℕ) (given : Lent)
+    → firstOf (refusalOf (given .saved) ∷ imageRefusal image ∷ memoryRefusal (given .memory) ∷ budgetRefusal budget ∷ []) ≡ 0
+    → runCallOf p image budget given ≡ answer (runOf p image (given .memory) (machineOf (given .saved)) budget .refusal) (leftBy (runOf p image (given .memory) (machineOf (given .saved)) budget))
+unfolding runCallOf
+run-keeps p image budget given e = sym (is-done _ given _ e)
 
 -- ---- A legal machine is left legal, whatever the answer; and a new machine is.
 saves-legal : {m : Machine} → Legal m → refusalOf (savedOf m) ≡ 0

@@ -58,6 +58,10 @@ pub record Four : Type 0 where
 abbrev pub four : ℕ → ℕ → ℕ → ℕ → Four
 four one two three length = record { one = one; two = two; three = three; length = length }
 
+-- the pins of ports 0 to 3
+abbrev pub pinsOf : ℕ → ℕ → ℕ → ℕ → Pins
+pinsOf pins0 pins1 pins2 pins3 = record { port0 = pins0; port1 = pins1; port2 = pins2; port3 = pins3 }
+
 -- ---- refusals
 
 -- "The first that applies, tested in the order 7, 6, 1, 2, 3, 4, 5, 8, among those that the call can meet." A test that doesn't apply is 0;

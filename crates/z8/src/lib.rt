@@ -6,19 +6,31 @@ use opcodes::Decoded;
 use opcodes::Encoded;
 ghost use mathlib.Core.Path.{_≡_};
 ghost use Rattle.saved.specs.Saved.{refusalOf};
-ghost use Rattle.z8.specs.Calls.{answer, lent, lentSpan, four, admittedOf, makeOf, makeDefaultOf, resetCallOf, decodeCallOf, encodeCallOf, stepCallOf, runCallOf, spanCallOf};
+ghost use Rattle.z8.specs.Calls.{answer, lent, lentSpan, four, pinsOf, admittedOf, makeOf, makeDefaultOf, resetCallOf, decodeCallOf, encodeCallOf, stepCallOf, runCallOf, spanCallOf};
 
 const SAVED_LEN: usize = 268;
 
 // The most bytes of a program image, and of a data memory.
 const MEMORY_MOST: usize = 65536;
 
+// 01's table, as far as its refusals are given here: 6, 3, 5 and 8 come from the rooms below.
+const DONE: u32 = 0;
+
+const IMAGE_TOO_LONG: u32 = 1;
+
+const MEMORY_TOO_LONG: u32 = 2;
+
+const BUDGET_TOO_HIGH: u32 = 4;
+
+const LENGTH_NOT_268: u32 = 7;
+
+// A new machine of that type and entry cost: 7, 3.
 #[no_mangle]
 pub extern "C" fn z8_make(saved: &mut [u8], kind: u32, cost: u32) -> u32
     ensures { λ r. ⌜ answer r (now (saved .exit)) ≡ makeOf kind cost (now (saved .entry)) ⌝ }
 {
     if saved.len() != SAVED_LEN {
-        return 7;
+        return LENGTH_NOT_268;
     }
     let made = Machine::make(kind, cost);
     if made.refusal != 0 {
@@ -26,29 +38,32 @@ pub extern "C" fn z8_make(saved: &mut [u8], kind: u32, cost: u32) -> u32
     }
     let m = made.machine;
     saved::save(&mut *saved, m);
-    0
+    DONE
 }
 
+// A new machine where nothing is named: 7.
 #[no_mangle]
 pub extern "C" fn z8_make_default(saved: &mut [u8]) -> u32
     ensures { λ r. ⌜ answer r (now (saved .exit)) ≡ makeDefaultOf (now (saved .entry)) ⌝ }
 {
     if saved.len() != SAVED_LEN {
-        return 7;
+        return LENGTH_NOT_268;
     }
     let m = Machine::standard();
     saved::save(&mut *saved, m);
-    0
+    DONE
 }
 
+// Whether it is a saved machine: 7, 6.
 #[no_mangle]
 pub extern "C" fn z8_check(saved: &[u8]) -> u32
     ensures { λ r. ⌜ r ≡ refusalOf (now (saved .entry)) ⌝ }
 {
-    let refusal = saved::check(saved);
-    refusal as u32
+    let number = saved::check(saved);
+    number as u32
 }
 
+// The machine after a reset: 7, 6.
 #[no_mangle]
 pub extern "C" fn z8_reset(saved: &mut [u8]) -> u32
     ensures { λ r. ⌜ answer r (now (saved .exit)) ≡ resetCallOf (now (saved .entry)) ⌝ }
@@ -58,11 +73,12 @@ pub extern "C" fn z8_reset(saved: &mut [u8]) -> u32
         return loaded.refusal as u32;
     }
     let m = loaded.machine;
-    let after = machine::start::reset(m);
-    saved::save(&mut *saved, after);
-    0
+    let started = machine::start::reset(m);
+    saved::save(&mut *saved, started);
+    DONE
 }
 
+// The instruction at an address of the image: 1, 5.
 #[no_mangle]
 pub extern "C" fn z8_decode(
     image: &[u8],
@@ -75,7 +91,7 @@ pub extern "C" fn z8_decode(
     ensures { λ r. ⌜ answer r (four (now (opcode .exit)) (now (first .exit)) (now (second .exit)) (now (length .exit))) ≡ decodeCallOf (now (image .entry)) at (four (now (opcode .entry)) (now (first .entry)) (now (second .entry)) (now (length .entry))) ⌝ }
 {
     if MEMORY_MOST < image.len() {
-        return 1;
+        return IMAGE_TOO_LONG;
     }
     let i = execute::fetch(image, at);
     let d = opcodes::instruction::decode(i.op, i.first, i.second);
@@ -86,11 +102,12 @@ pub extern "C" fn z8_decode(
             *first = a;
             *second = b;
             *length = n;
-            0
+            DONE
         }
     }
 }
 
+// An instruction's bytes: 8.
 #[no_mangle]
 pub extern "C" fn z8_encode(
     opcode: u8,
@@ -111,7 +128,7 @@ pub extern "C" fn z8_encode(
             *byte1 = b1;
             *byte2 = b2;
             *length = n;
-            0
+            DONE
         }
     }
 }
@@ -124,14 +141,15 @@ fn admitted(saved: u8, image: &[u8], memory: &[u8]) -> u32
         return saved as u32;
     }
     if MEMORY_MOST < image.len() {
-        return 1;
+        return IMAGE_TOO_LONG;
     }
     if MEMORY_MOST < memory.len() {
-        return 2;
+        return MEMORY_TOO_LONG;
     }
-    0
+    DONE
 }
 
+// One step: 7, 6, 1, 2, 5. With 5 `step` has left the memory as it was.
 #[no_mangle]
 pub extern "C" fn z8_step(
     saved: &mut [u8],
@@ -145,7 +163,7 @@ pub extern "C" fn z8_step(
     ends0: &mut u32,
     ends1: &mut u32,
 ) -> u32
-    ensures { λ r. ⌜ answer r (lent (now (saved .exit)) (now (memory .exit)) (now (cycles .exit)) (now (ends0 .exit)) (now (ends1 .exit))) ≡ stepCallOf (record { port0 = pins0; port1 = pins1; port2 = pins2; port3 = pins3 }) (now (image .entry)) (lent (now (saved .entry)) (now (memory .entry)) (now (cycles .entry)) (now (ends0 .entry)) (now (ends1 .entry))) ⌝ }
+    ensures { λ r. ⌜ answer r (lent (now (saved .exit)) (now (memory .exit)) (now (cycles .exit)) (now (ends0 .exit)) (now (ends1 .exit))) ≡ stepCallOf (pinsOf pins0 pins1 pins2 pins3) (now (image .entry)) (lent (now (saved .entry)) (now (memory .entry)) (now (cycles .entry)) (now (ends0 .entry)) (now (ends1 .entry))) ⌝ }
 {
     let loaded = saved::load(&*saved);
     let refusal = admitted(loaded.refusal, image, &*memory);
@@ -168,9 +186,10 @@ pub extern "C" fn z8_step(
     *cycles = s.cycles;
     *ends0 = s.ends0;
     *ends1 = s.ends1;
-    0
+    DONE
 }
 
+// The bounded run: 7, 6, 1, 2, 4; and 5, with what was done before.
 #[no_mangle]
 pub extern "C" fn z8_run(
     saved: &mut [u8],
@@ -185,7 +204,7 @@ pub extern "C" fn z8_run(
     ends0: &mut u32,
     ends1: &mut u32,
 ) -> u32
-    ensures { λ r. ⌜ answer r (lent (now (saved .exit)) (now (memory .exit)) (now (cycles .exit)) (now (ends0 .exit)) (now (ends1 .exit))) ≡ runCallOf (record { port0 = pins0; port1 = pins1; port2 = pins2; port3 = pins3 }) (now (image .entry)) budget (lent (now (saved .entry)) (now (memory .entry)) (now (cycles .entry)) (now (ends0 .entry)) (now (ends1 .entry))) ⌝ }
+    ensures { λ r. ⌜ answer r (lent (now (saved .exit)) (now (memory .exit)) (now (cycles .exit)) (now (ends0 .exit)) (now (ends1 .exit))) ≡ runCallOf (pinsOf pins0 pins1 pins2 pins3) (now (image .entry)) budget (lent (now (saved .entry)) (now (memory .entry)) (now (cycles .entry)) (now (ends0 .entry)) (now (ends1 .entry))) ⌝ }
 {
     let loaded = saved::load(&*saved);
     let refusal = admitted(loaded.refusal, image, &*memory);
@@ -193,7 +212,7 @@ pub extern "C" fn z8_run(
         return refusal;
     }
     if step::BUDGET_LIMIT < budget {
-        return 4;
+        return BUDGET_TOO_HIGH;
     }
     let m = loaded.machine;
     let pins = Pins {
@@ -202,15 +221,16 @@ pub extern "C" fn z8_run(
         port2: pins2,
         port3: pins3,
     };
-    let s = step::run(m, pins, image, &mut *memory, budget);
-    let after = s.machine;
-    saved::save(&mut *saved, after);
-    *cycles = s.cycles;
-    *ends0 = s.ends0;
-    *ends1 = s.ends1;
-    s.refusal as u32
+    let ran = step::run(m, pins, image, &mut *memory, budget);
+    let reached = ran.machine;
+    saved::save(&mut *saved, reached);
+    *cycles = ran.cycles;
+    *ends0 = ran.ends0;
+    *ends1 = ran.ends1;
+    ran.refusal as u32
 }
 
+// Cycles and nothing else, in one move by division: 7, 6.
 #[no_mangle]
 pub extern "C" fn z8_span(saved: &mut [u8], span: u32, ends0: &mut u32, ends1: &mut u32) -> u32
     ensures { λ r. ⌜ answer r (lentSpan (now (saved .exit)) (now (ends0 .exit)) (now (ends1 .exit))) ≡ spanCallOf span (lentSpan (now (saved .entry)) (now (ends0 .entry)) (now (ends1 .entry))) ⌝ }
@@ -225,5 +245,5 @@ pub extern "C" fn z8_span(saved: &mut [u8], span: u32, ends0: &mut u32, ends1: &
     saved::save(&mut *saved, after);
     *ends0 = p.ends0;
     *ends1 = p.ends1;
-    0
+    DONE
 }

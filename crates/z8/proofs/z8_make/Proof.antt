@@ -7,6 +7,7 @@ use mathlib.Core.Bool.{true, false}
 use lib.Dec.{eqb}
 use lib.ListN.{length}
 use denote.Ref.{now}
+use Rattle.machine.specs.Start.{madeOf}
 use Rattle.z8.specs.Calls.{makeOf}
 
 returns : tie.Need-returns
@@ -21,7 +22,7 @@ cast-result c = search needs
 
 returns-2 : tie.Need-returns-2
 unfolding makeOf
-returns-2 c = let long : eqb (length (now (c .before .before .before .before .before .before .args .saved))) 268 ≡ true = eq-eqb _ _ (c .before .before .before .before .if1 .left) in let refused : eqb (c .before .before .before .make .result .refusal) 0 ≡ false = ne-eqb _ _ (c .before .if2 .taken) in rw (long, ← c .before .before .before .make .ensures, refused, refused)
+returns-2 c = let long : eqb (length (now (c .before .before .before .before .before .before .args .saved))) 268 ≡ true = eq-eqb _ _ (c .before .before .before .before .if1 .left) in let refused : eqb (c .before .before .before .make .result .refusal) 0 ≡ false = ne-eqb _ _ (c .before .if2 .taken) in let made : c .before .before .before .make .result ≡ madeOf (c .before .before .before .before .before .before .args .kind) (c .before .before .before .before .before .before .args .cost) = c .before .before .before .make .ensures in rw (long, ← made, refused, refused)
 
 save-requires : tie.Need-save-requires
 save-requires c κs = search needs
@@ -31,7 +32,7 @@ same-length c = search needs
 
 returns-3 : tie.Need-returns-3
 unfolding makeOf
-returns-3 c = let long : eqb (length (now (c .before .before .before .before .before .before .before .before .before .before .args .saved))) 268 ≡ true = eq-eqb _ _ (c .before .before .before .before .before .before .before .before .if1 .left) in rw (c .before .before .save .ensures, long, ← c .before .before .before .before .before .before .before .make .ensures, eq-eqb _ _ (c .before .before .before .before .before .if2 .left))
+returns-3 c = let long : eqb (length (now (c .before .before .before .before .before .before .before .before .before .before .args .saved))) 268 ≡ true = eq-eqb _ _ (c .before .before .before .before .before .before .before .before .if1 .left) in let made : c .before .before .before .before .before .before .before .make .result ≡ madeOf (c .before .before .before .before .before .before .before .before .before .before .args .kind) (c .before .before .before .before .before .before .before .before .before .before .args .cost) = c .before .before .before .before .before .before .before .make .ensures in rw (c .before .before .save .ensures, long, ← made, eq-eqb _ _ (c .before .before .before .before .before .if2 .left))
 
 pub z8-make-spec : {M : Type 1} → statement M
 z8-make-spec =

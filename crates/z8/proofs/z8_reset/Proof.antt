@@ -1,9 +1,13 @@
 use borrow.Author.Needs.{needs}
 use Rattle.z8.proofs.z8_reset.Statement.{statement}
 use Rattle.z8.proofs.z8_reset.Tie as tie
-use mathlib.Core.Path.{_∙_, sym}
+use mathlib.Core.Path.{_∙_, sym, ap}
+use mathlib.Core.List.{List}
+use Prim.Native.Nat.{ℕ}
+use Rattle.machine.specs.Start.{resetOf}
+use Rattle.saved.specs.Saved.{savedOf}
 use Rattle.z8.proofs.Refusals.{is-refused, is-done, load-refuses, load-268, load-machine}
-use Rattle.z8.specs.Calls.{resetCallOf}
+use Rattle.z8.specs.Calls.{answer, resetCallOf}
 
 load-requires : tie.Need-load-requires
 load-requires c κs = search needs
@@ -29,7 +33,7 @@ same-length-2 c = search needs
 
 returns-2 : tie.Need-returns-2
 unfolding resetCallOf
-returns-2 c = rw (c .before .before .save .ensures, c .before .before .before .before .reset .ensures, load-machine _ _ (c .before .before .before .before .before .before .before .before .load .ensures .0) (c .before .before .before .before .before .before .if1 .left)) (is-done _ _ _ (sym (load-refuses _ _ (c .before .before .before .before .before .before .before .before .load .ensures .0)) ∙ c .before .before .before .before .before .before .if1 .left))
+returns-2 c = ap (λ (x : List ℕ). answer 0 x) (c .before .before .save .ensures ∙ ap savedOf (c .before .before .before .before .reset .ensures ∙ ap resetOf (load-machine _ _ (c .before .before .before .before .before .before .before .before .load .ensures .0) (c .before .before .before .before .before .before .if1 .left)))) ∙ is-done _ _ _ (sym (load-refuses _ _ (c .before .before .before .before .before .before .before .before .load .ensures .0)) ∙ c .before .before .before .before .before .before .if1 .left)
 
 pub z8-reset-spec : {M : Type 1} → statement M
 z8-reset-spec =
