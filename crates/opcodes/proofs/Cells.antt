@@ -1,6 +1,6 @@
 -- A part of a map of 16 rows of 16 compared with what the code answers there, by computing both. Assumes nothing.
-use mathlib.Core.Path.{_≡_, refl}
-use mathlib.Core.Bool.{Bool, not}
+use mathlib.Core.Path.{_≡_, refl, sym, subst}
+use mathlib.Core.Bool.{Bool, true, false, not}
 use mathlib.Core.List.{List}
 use Prim.Native.Nat.{ℕ, _+_, _-_, _*_, _≤_, _<_}
 use native.Mathlib.Omega.{arith}
@@ -9,7 +9,10 @@ use Rattle.word.specs.Fields.{upper, lower}
 use Rattle.word.proofs.Computed.{made, agree2, fails, NoneOf, else-passes}
 use Rattle.opcodes.specs.declared.Entry.{Entry}
 use Rattle.opcodes.specs.declared.Entry.the-variants.{Blank, Of}
-use Rattle.opcodes.specs.Instruction.{defined}
+use Rattle.opcodes.specs.declared.Decoded.{Decoded}
+use Rattle.opcodes.specs.declared.Decoded.the-variants as decoded
+use Rattle.opcodes.specs.Map.{entryOf}
+use Rattle.opcodes.specs.Instruction.{defined, lengthOf, operand, opcodeUndefined, decodedAs, decodeOf}
 
 -- f, of an upper and a lower nibble, in the m columns from j of the n rows from i
 abbrev pub part : {A : Type 0} → ℕ → ℕ → ℕ → ℕ → (ℕ → ℕ → A) → List (List A)
@@ -34,3 +37,20 @@ else-in-row f hi op h d =
 pub blank-is : (e : Entry) → T (not (defined e)) → Blank ≡ e
 blank-is Blank t = refl
 blank-is (Of k) t = absurd t
+
+-- what is decoded, by whether the map has an instruction there
+pub decoded-where : (op a b : ℕ) → defined (entryOf op) ≡ true → decodeOf op a b ≡ decoded.Instruction op (operand 2 op a) (operand 3 op b) (lengthOf op)
+unfolding decodeOf
+decoded-where op a b d = go (entryOf op) d
+  where
+    go : (e : Entry) → defined e ≡ true → decodedAs e op a b ≡ decoded.Instruction op (operand 2 op a) (operand 3 op b) (lengthOf op)
+    go Blank d = absurd (subst T (sym d) tt)
+    go (Of k) d = refl
+
+pub decoded-where-not : (op a b : ℕ) → defined (entryOf op) ≡ false → decodeOf op a b ≡ decoded.Refused opcodeUndefined
+unfolding decodeOf
+decoded-where-not op a b d = go (entryOf op) d
+  where
+    go : (e : Entry) → defined e ≡ false → decodedAs e op a b ≡ decoded.Refused opcodeUndefined
+    go Blank d = refl
+    go (Of k) d = absurd (subst T d tt)

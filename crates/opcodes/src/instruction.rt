@@ -1,7 +1,6 @@
 // Lengths, and an instruction from its bytes and to its bytes.
 use crate::Decoded;
 use crate::Encoded;
-use crate::Entry;
 ghost use mathlib.Core.Path.{_≡_};
 ghost use lib.Dec.{leb};
 ghost use Rattle.word.specs.Choose.{pick};
@@ -12,17 +11,16 @@ const OPCODE_UNDEFINED: u8 = 5;
 
 const NO_INSTRUCTION: u8 = 8;
 
-// An instruction's length, by the lower nibble; CALL @RR is the one exception.
+// An instruction's length, by the lower nibble; CALL @RR is the one exception. It is asked for in its own column alone: where the
+// compiler has told the columns apart for the kind, it then knows the length as well, and nothing is compared.
 pub fn length_of(op: u8) -> u8
     ensures { λ r. ⌜ r ≡ lengthOf op ⌝ }
 {
-    if op == 0xD4 {
-        return 2;
-    }
     let lo = word::lower(op);
     match lo {
         0..=3 | 8..=12 => 2,
-        4..=7 | 13 => 3,
+        4 => if op == 0xD4 { 2 } else { 3 },
+        5..=7 | 13 => 3,
         _ => 1,
     }
 }
@@ -38,13 +36,14 @@ fn operand(n: u8, length: u8, b: u8) -> u8
 pub fn decode(op: u8, a: u8, b: u8) -> Decoded
     ensures { λ r. ⌜ r ≡ decodeOf op a b ⌝ }
 {
-    let e = crate::map::entry_of(op);
+    let defined = crate::map::is_defined(op);
     let n = length_of(op);
     let first = operand(2, n, a);
     let second = operand(3, n, b);
-    match e {
-        Entry::Blank => Decoded::Refused(OPCODE_UNDEFINED),
-        Entry::Of(_) => Decoded::Instruction(op, first, second, n),
+    if defined {
+        Decoded::Instruction(op, first, second, n)
+    } else {
+        Decoded::Refused(OPCODE_UNDEFINED)
     }
 }
 
@@ -52,14 +51,11 @@ pub fn decode(op: u8, a: u8, b: u8) -> Decoded
 pub fn encode(op: u8, a: u8, b: u8) -> Encoded
     ensures { λ r. ⌜ r ≡ encodeOf op a b ⌝ }
 {
-    let e = crate::map::entry_of(op);
+    let defined = crate::map::is_defined(op);
     let n = length_of(op);
-    match e {
-        Entry::Blank => Encoded::Refused(NO_INSTRUCTION),
-        Entry::Of(_) => if ((2 <= n) | (a == 0)) & ((3 <= n) | (b == 0)) {
-            Encoded::Bytes(n, op, a, b)
-        } else {
-            Encoded::Refused(NO_INSTRUCTION)
-        },
+    if defined & (((2 <= n) | (a == 0)) & ((3 <= n) | (b == 0))) {
+        Encoded::Bytes(n, op, a, b)
+    } else {
+        Encoded::Refused(NO_INSTRUCTION)
     }
 }

@@ -15,6 +15,7 @@ ghost use Prim.Native.Nat.{_≤_, _<_};
 ghost use Rattle.word.specs.Fields.{upper, lower};
 ghost use Rattle.opcodes.specs.Map.{entryOf};
 ghost use Rattle.opcodes.specs.Columns.{oneMode, twoModes, wayOf};
+ghost use Rattle.opcodes.specs.Instruction.{defined};
 
 // The map's entry at an opcode, by its nibbles.
 pub fn entry_of(op: u8) -> Entry
@@ -246,5 +247,23 @@ fn alone(op: u8) -> Entry
         13 => Entry::Of(Kind::Scf),
         14 => Entry::Of(Kind::Ccf),
         15..=255 => Entry::Of(Kind::Nop),
+    }
+}
+
+// Whether the map has an instruction at an opcode, row by row. Who doesn't ask for the kind asks here: with one caller, who executes,
+// `entry_of` is put in line there.
+pub fn is_defined(op: u8) -> bool
+    ensures { λ r. ⌜ r ≡ defined (entryOf op) ⌝ }
+{
+    let hi = word::upper(op);
+    let lo = word::lower(op);
+    match hi {
+        0..=7 => lo != 15,
+        8..=9 => (lo < 4) | (8 <= lo),
+        10..=11 => true,
+        12 => (lo < 4) | (7 <= lo),
+        13 => lo != 5,
+        14 => lo != 2,
+        15..=255 => (lo != 2) & (lo != 4) & (lo != 6) & (lo != 7),
     }
 }

@@ -1,43 +1,48 @@
 use borrow.Author.Needs.{needs}
 use Rattle.opcodes.proofs.instruction.decode.Statement.{statement}
 use Rattle.opcodes.proofs.instruction.decode.Tie as tie
-use Rattle.opcodes.specs.Instruction.{decodeOf}
+use Rattle.opcodes.proofs.instruction.decode.Reads as reads
+use Rattle.opcodes.proofs.instruction.decode.Lts as lts
+use Rattle.opcodes.proofs.instruction.length_of.Reads as length-of-reads
+use Rattle.opcodes.proofs.instruction.operand.Reads as operand-reads
+use Rattle.opcodes.proofs.map.is_defined.Reads as is-defined-reads
+use mathlib.Core.Path.{_≡_, sym, _∙_}
+use mathlib.Core.Bool.{true, false}
+use Rattle.opcodes.specs.Map.{entryOf}
+use Rattle.opcodes.specs.Instruction.{defined, decodeOf}
+use Rattle.opcodes.proofs.Cells.{decoded-where, decoded-where-not}
 
-entry-of-requires : tie.Need-entry-of-requires
-entry-of-requires c κs = search needs
+-- src/instruction.rt:39:9
+is-defined-requires : tie.Need-is-defined-requires
+is-defined-requires c κs = search needs
 
+-- src/instruction.rt:40:9
 length-of-requires : tie.Need-length-of-requires
 length-of-requires c κs = search needs
 
+-- src/instruction.rt:41:9
 operand-requires : tie.Need-operand-requires
 operand-requires c κs = search needs
 
+-- src/instruction.rt:42:9
 operand-requires-2 : tie.Need-operand-requires-2
 operand-requires-2 c κs = search needs
 
-enum-told : tie.Need-enum-told
-enum-told c = search needs
-
-enum-told-2 : tie.Need-enum-told-2
-enum-told-2 c = search needs
-
+-- src/instruction.rt:36:1
 returns : tie.Need-returns
-unfolding decodeOf
-returns c = rw (← c .before .before .before .before .before .entry-of .ensures, c .enum-told .given .1)
+returns c = rw (c .before .operand2 .ensures, c .before .before .operand .ensures, c .before .before .before .length-of .ensures) (sym (decoded-where _ _ _ (sym (c .before .before .before .before .is-defined .ensures) ∙ c .if1 .taken)))
 
+-- src/instruction.rt:36:1
 returns-2 : tie.Need-returns-2
-unfolding decodeOf
-returns-2 c = rw (← c .before .before .before .before .before .entry-of .ensures, c .enum-told2 .given .1, c .before .before .operand2 .ensures, c .before .before .before .operand .ensures, c .before .before .before .before .length-of .ensures)
+returns-2 c = sym (decoded-where-not _ _ _ (sym (c .before .before .before .before .is-defined .ensures) ∙ c .if1 .left))
 
 pub decode-spec : {M : Type 1} → statement M
 decode-spec =
     tie.close
     (tie.spec
-    entry-of-requires
+    is-defined-requires
     length-of-requires
     operand-requires
     operand-requires-2
-    enum-told
-    enum-told-2
     returns
     returns-2)
