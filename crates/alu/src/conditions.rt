@@ -24,10 +24,14 @@ fn low(cc: u8, f: u8) -> bool
     }
 }
 
-// Condition code cc, a number below 16, holds of the FLAGS byte f. A code from 8 is the opposite of that 8 below.
+// Condition code cc, a number below 16, holds of the FLAGS byte f. A code from 8 is the opposite of that 8 below; 8 itself, the blank, is
+// the code of most jumps, and holds before a flag is looked at.
 pub fn holds(cc: u8, f: u8) -> bool
     requires { ⌜ cc < 16 ⌝ }
     ensures { λ r. ⌜ r ≡ holdsOf cc f ⌝ }
 {
+    if cc == 8 {
+        return true;
+    }
     if cc < 8 { low(cc, f) } else { !low(cc - 8, f) }
 }

@@ -13,22 +13,26 @@ opposite : (k f : ℕ) → k < 8 → f < 256 → not (holdsOf k f) ≡ holdsOf (
 unfolding holdsOf xor
 opposite k f h l = agree2 (λ f k. not (holdsOf k f)) (λ f k. holdsOf (k + 8) f) 256 8 refl f k l h
 
+returns : tie.Need-returns
+unfolding holdsOf
+returns c = rw (c .if1 .taken)
+
 low-requires : tie.Need-low-requires
 low-requires c κs = search needs
 
 low-requires-2 : tie.Need-low-requires-2
 low-requires-2 c κs = search needs
 
-returns : tie.Need-returns
-returns c = search needs
-
 returns-2 : tie.Need-returns-2
-returns-2 c =
-    let cc = c .before .before .args .cc in
-    let f = c .before .before .args .f in
+returns-2 c = search needs
+
+returns-3 : tie.Need-returns-3
+returns-3 c =
+    let cc = c .before .before .before .args .cc in
+    let f = c .before .before .before .args .f in
     let below : c .low2 .result ≡ holdsOf (cc - 8) f = c .low2 .ensures in
     let e : cc - 8 + 8 ≡ cc = omega arith in
     rw (below, opposite (cc - 8) f (omega arith) (omega arith), e)
 
 pub holds-spec : {M : Type 1} → statement M
-holds-spec = tie.close (tie.spec low-requires low-requires-2 returns returns-2)
+holds-spec = tie.close (tie.spec returns low-requires low-requires-2 returns-2 returns-3)
