@@ -1,2 +1,3 @@
 pub mod Legal
 pub mod Theorems
+pub mod Last3

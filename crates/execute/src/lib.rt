@@ -26,10 +26,12 @@ pub struct Executed {
 pub fn fetch(image: &[u8], pc: u16) -> Code
     ensures { λ r. ⌜ r ≡ codeAt (now (image .entry)) pc ⌝ }
 {
-    let op = machine::memory::program(image, pc);
-    let first = machine::memory::program(image, word::plus(pc, 1));
-    let second = machine::memory::program(image, word::plus(pc, 2));
-    Code { op, first, second }
+    let b = machine::memory::program_three(image, pc);
+    Code {
+        op: b.first,
+        first: b.second,
+        second: b.third,
+    }
 }
 
 // Refusal 5: nothing is changed.

@@ -4,15 +4,17 @@ use mathlib.Core.List.{List, [], _∷_}
 use Prim.Native.Nat.{ℕ, _+_, _-_, _*_, _%_}
 use lib.Dec.{eqb, ltb}
 use lib.ListN.{length}
-use Rattle.word.specs.Fields.{upper, highByte}
+use Rattle.word.specs.Fields.{upper, highByte, lowByte}
 use Rattle.word.specs.Words.{plus}
 use Rattle.word.proofs.Computed.{by-test}
 use Rattle.timers.specs.Clock.{written}
+use Rattle.timers.proofs.Iterate.{iter-keeps}
 use Rattle.machine.specs.State.{placedIn, whole, placed, atPc, atLast3, withLast3, withPc, keeping}
-use Rattle.machine.specs.Clock.{movingOf, countsAt, writeTmr}
+use Rattle.machine.specs.Clock.{movingOf, countsAt, movedTo, writeTmr, Ran, shown, cycleOf, spanOf}
 use Rattle.machine.specs.Registers.{isHole, writePort, writeReg}
+use Rattle.machine.specs.Addresses.{evenOf, writePair}
 use Rattle.machine.specs.Memory.{listOf}
-use Rattle.machine.specs.Stack.{Stacked, stackedOf, isInside, spl, spOf, spSet, writtenFrom, pushedInside, pushedOutside, pushed}
+use Rattle.machine.specs.Stack.{Stacked, stackedOf, isInside, spl, spOf, spSet, writtenFrom, pushedInside, pushedOutside, pushed, raised}
 use Rattle.machine.specs.declared.Machine.{Machine}
 use Rattle.machine.specs.declared.Core.{Core}
 use Rattle.machine.specs.declared.Bytes.{Bytes}
@@ -38,10 +40,10 @@ pub record Keeps (m n : Machine) : Type 0 where
   pub kind-kept : n .kind ≡ m .kind
   pub cost-kept : n .cost ≡ m .cost
 
-itself : (m : Machine) → Keeps m m
+pub itself : (m : Machine) → Keeps m m
 itself m = record { pc-kept = refl; divider-kept = refl; last3-kept = refl; kind-kept = refl; cost-kept = refl }
 
-keeps-on : {m n o : Machine} → Keeps m n → Keeps n o → Keeps m o
+pub keeps-on : {m n o : Machine} → Keeps m n → Keeps n o → Keeps m o
 keeps-on f g =
     record {
       pc-kept = g .pc-kept ∙ f .pc-kept;
@@ -51,7 +53,7 @@ keeps-on f g =
       cost-kept = g .cost-kept ∙ f .cost-kept;
     }
 
-place-keeps : (m : Machine) (a v : ℕ) → Keeps m (placed m a v)
+pub place-keeps : (m : Machine) (a v : ℕ) → Keeps m (placed m a v)
 unfolding placed
 place-keeps m a v = record { pc-kept = refl; divider-kept = refl; last3-kept = refl; kind-kept = refl; cost-kept = refl }
 
@@ -68,6 +70,10 @@ write-keeps m a v =
     by-test (Keeps m) (eqb a 0xFA) (λ e. place-keeps m a (v % 64)) (λ u.
     by-test (Keeps m) (eqb a 0xFD) (λ e. place-keeps m a (upper v * 16)) (λ u. place-keeps m a v)))))
 
+pub pair-keeps : (m : Machine) (a w : ℕ) → Keeps m (writePair m a w)
+unfolding writePair
+pair-keeps m a w = keeps-on (write-keeps m (evenOf a) (highByte w)) (write-keeps (writeReg m (evenOf a) (highByte w)) (evenOf a + 1) (lowByte w))
+
 from-keeps : (m : Machine) (a : ℕ) (vs : List ℕ) → Keeps m (writtenFrom m a vs)
 from-keeps m a [] = itself m
 from-keeps m a (v ∷ vs) = keeps-on (write-keeps m a v) (from-keeps (writeReg m a v) ((a + 1) % 256) vs)
@@ -79,6 +85,13 @@ push-keeps m b =
     (λ t. keeps-on (place-keeps m 0xFF _) (from-keeps (placed m 0xFF ((spl m + (256 - length (listOf b))) % 256)) ((spl m + (256 - length (listOf b))) % 256) (listOf b)))
     (λ t. keeps-on (place-keeps m 0xFE _) (place-keeps (placed m 0xFE (highByte (plus (spOf m) (65536 - length (listOf b))))) 0xFF _))
 
+pub raise-keeps : (m : Machine) (n : ℕ) → Keeps m (raised m n)
+unfolding raised spSet
+raise-keeps m n =
+    by-test (Keeps m) (isInside m)
+    (λ t. place-keeps m 0xFF _)
+    (λ t. keeps-on (place-keeps m 0xFE _) (place-keeps (placed m 0xFE (highByte (plus (spOf m) n))) 0xFF _))
+
 -- so what is kept of k is nothing else than n
 pub kept-is : {file file₀ : List ℕ} {k n : Core} {o : Machine} → Keeps (whole file₀ k) o → whole file n ≡ o → whole file (keeping k n) ≡ o
 kept-is h e = rw (← h .pc-kept, ← h .divider-kept, ← h .last3-kept, ← h .kind-kept, ← h .cost-kept, ← e)
@@ -88,3 +101,9 @@ pub push-is : {file : List ℕ} {r : Pushed} (file₀ : List ℕ) (k : Core) (b 
     → stackedOf file (record { k = keeping k (r .k); stores = r .stores }) ≡ pushed (whole file₀ k) b
 push-is file₀ k b e =
     rw (kept-is (push-keeps (whole file₀ k) b) (ap (λ (s : Stacked). s .machine) e), ap (λ (s : Stacked). s .stores) e)
+
+-- cycles keep the last pins
+pub span-last3 : (n : ℕ) (m : Machine) → spanOf n m .machine .last3 ≡ m .last3
+unfolding spanOf cycleOf shown movedTo placed countsAt
+span-last3 n m =
+    iter-keeps cycleOf (λ (r : Ran). r .machine .last3 ≡ m .last3) (λ r e. e) n (record { machine = m; ends0 = 0; ends1 = 0 }) refl

@@ -78,7 +78,7 @@ pub fn read_pair(regs: &[u8; 256], k: Core, pins: Pins, a: u8) -> u16
     word::word(hi, lo)
 }
 
-// A word stored to a pair.
+// A word stored to a pair. What is returned is put together from parts (see `registers::write`).
 pub fn write_pair(regs: &mut [u8; 256], k: Core, a: u8, w: u16) -> Core
     ensures { λ r. ⌜ whole (now (regs .exit)) r ≡ writePair (whole (now (regs .entry)) k) a w ⌝ }
 {
@@ -86,5 +86,6 @@ pub fn write_pair(regs: &mut [u8; 256], k: Core, a: u8, w: u16) -> Core
     let hi = word::high_byte(w);
     let lo = word::low_byte(w);
     let k1 = crate::registers::write_any(regs, k, high, hi);
-    crate::registers::write_any(regs, k1, high + 1, lo)
+    let k2 = crate::registers::write_any(regs, k1, high + 1, lo);
+    crate::keeping(k, k2)
 }

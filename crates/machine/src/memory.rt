@@ -3,14 +3,59 @@ use crate::Bytes;
 use crate::Machine;
 use crate::Stores;
 ghost use mathlib.Core.Path.{_≡_};
+ghost use Prim.Native.Nat.{_≤_};
+ghost use lib.ListN.{length};
+ghost use Rattle.word.specs.Words.{plus};
 ghost use Rattle.machine.specs.Memory.{programByte, dataStart, dataByte, dataStored, listOf, storedFrom, storedIn};
 
-// A byte of the program. Every fetch, vector and LDC goes by it.
+// Three bytes of the program, in address order: as many as an instruction has at most.
+pub struct Triple {
+    pub first: u8,
+    pub second: u8,
+    pub third: u8,
+}
+
+// A byte of the program. Every vector and LDC goes by it, and every fetch by it or by `program_three` below, which reads the same.
 pub fn program(image: &[u8], a: u16) -> u8
     ensures { λ r. ⌜ r ≡ programByte (now (image .entry)) a ⌝ }
 {
     let i = a as usize;
     if i < image.len() { image[i] } else { 0xFF }
+}
+
+// How much of the image addresses reach.
+fn reach(image: &[u8]) -> usize
+    ensures { λ r. ⌜ (r ≤ length (now (image .entry))) × (r ≤ 65536) ⌝ }
+{
+    if image.len() < 65536 {
+        image.len()
+    } else {
+        65536
+    }
+}
+
+// Three bytes of the program from a on, each as `program` has it. Mostly all three are within the image and no address passes 65,535:
+// then one test tells so, where `program` has one for each.
+pub fn program_three(image: &[u8], a: u16) -> Triple
+    ensures { λ r. ⌜ (r .first ≡ programByte (now (image .entry)) a) × (r .second ≡ programByte (now (image .entry)) (plus a 1)) × (r .third ≡ programByte (now (image .entry)) (plus a 2)) ⌝ }
+{
+    let i = a as usize;
+    let end = reach(image);
+    if i + 2 < end {
+        return Triple {
+            first: image[i],
+            second: image[i + 1],
+            third: image[i + 2],
+        };
+    }
+    let first = program(image, a);
+    let second = program(image, word::plus(a, 1));
+    let third = program(image, word::plus(a, 2));
+    Triple {
+        first,
+        second,
+        third,
+    }
 }
 
 // Where a type's data memory starts.

@@ -1,29 +1,53 @@
 use borrow.Author.Needs.{needs}
 use Rattle.machine.proofs.addresses.write_pair.Statement.{statement}
 use Rattle.machine.proofs.addresses.write_pair.Tie as tie
+use Rattle.machine.proofs.addresses.write_pair.Reads as reads
+use Rattle.machine.proofs.addresses.write_pair.Lts as lts
+use Rattle.machine.proofs.addresses.even.Reads as even-reads
+use Rattle.machine.proofs.keeping.Reads as keeping-reads
+use Rattle.machine.proofs.registers.write_any.Reads as write-any-reads
+use Rattle.word.proofs.high_byte.Reads as high-byte-reads
+use Rattle.word.proofs.low_byte.Reads as low-byte-reads
+use denote.Ref.{now}
+use Rattle.machine.specs.State.{whole}
 use Rattle.machine.specs.Addresses.{writePair}
+use Rattle.machine.proofs.Whole.{pair-keeps, kept-is}
 
+-- src/addresses.rt:85:9
 even-requires : tie.Need-even-requires
 even-requires c κs = search needs
 
+-- src/addresses.rt:86:9
 high-byte-requires : tie.Need-high-byte-requires
 high-byte-requires c κs = search needs
 
+-- src/addresses.rt:87:9
 low-byte-requires : tie.Need-low-byte-requires
 low-byte-requires c κs = search needs
 
+-- src/addresses.rt:88:9
 write-any-requires : tie.Need-write-any-requires
 write-any-requires c κs = search needs
 
+-- src/addresses.rt:89:52
 add-write-any : tie.Need-add-write-any
 add-write-any c = search needs
 
+-- src/addresses.rt:89:9
 write-any-requires-2 : tie.Need-write-any-requires-2
 write-any-requires-2 c κs = search needs
 
+-- src/addresses.rt:90:5
+keeping-requires : tie.Need-keeping-requires
+keeping-requires c κs = search needs
+
+-- src/addresses.rt:82:1
 returns : tie.Need-returns
 unfolding writePair
-returns c = simp (c .write-any2 .ensures, c .before .before .write-any .ensures, c .before .before .before .before .low-byte .ensures, c .before .before .before .before .before .high-byte .ensures, c .before .before .before .before .before .before .even .ensures .0)
+returns c =
+    rw (c .keeping .ensures)
+    (kept-is {n = c .before .write-any2 .result} (pair-keeps (whole (now (c .before .before .before .before .before .before .before .before .args .regs)) (c .before .before .before .before .before .before .before .before .args .k)) (c .before .before .before .before .before .before .before .before .args .a) (c .before .before .before .before .before .before .before .before .args .w))
+    (simp (c .before .write-any2 .ensures, c .before .before .before .write-any .ensures, c .before .before .before .before .before .low-byte .ensures, c .before .before .before .before .before .before .high-byte .ensures, c .before .before .before .before .before .before .before .even .ensures .0)))
 
 pub write-pair-spec : {M : Type 1} → statement M
 write-pair-spec =
@@ -35,4 +59,5 @@ write-pair-spec =
     write-any-requires
     add-write-any
     write-any-requires-2
+    keeping-requires
     returns)
