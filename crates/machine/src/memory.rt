@@ -5,8 +5,7 @@ use crate::Stores;
 ghost use mathlib.Core.Path.{_≡_};
 ghost use Prim.Native.Nat.{_≤_};
 ghost use lib.ListN.{length};
-ghost use Rattle.word.specs.Words.{plus};
-ghost use Rattle.machine.specs.Memory.{programByte, dataStart, dataByte, dataStored, listOf, storedFrom, storedIn};
+ghost use Rattle.machine.specs.Memory.{programByte, programThree, reachOf, dataStart, dataByte, dataStored, listOf, storedFrom, storedIn};
 
 // Three bytes of the program, in address order: as many as an instruction has at most.
 pub struct Triple {
@@ -25,7 +24,8 @@ pub fn program(image: &[u8], a: u16) -> u8
 
 // How much of the image addresses reach.
 fn reach(image: &[u8]) -> usize
-    ensures { λ r. ⌜ (r ≤ length (now (image .entry))) × (r ≤ 65536) ⌝ }
+    ensures { λ r. ⌜ r ≡ reachOf (now (image .entry)) ⌝ }
+    ensures inside { λ r. ⌜ (r ≤ length (now (image .entry))) × (r ≤ 65536) ⌝ }
 {
     if image.len() < 65536 {
         image.len()
@@ -37,7 +37,7 @@ fn reach(image: &[u8]) -> usize
 // Three bytes of the program from a on, each as `program` has it. Mostly all three are within the image and no address passes 65,535:
 // then one test tells so, where `program` has one for each.
 pub fn program_three(image: &[u8], a: u16) -> Triple
-    ensures { λ r. ⌜ (r .first ≡ programByte (now (image .entry)) a) × (r .second ≡ programByte (now (image .entry)) (plus a 1)) × (r .third ≡ programByte (now (image .entry)) (plus a 2)) ⌝ }
+    ensures { λ r. ⌜ r ≡ programThree (now (image .entry)) a ⌝ }
 {
     let i = a as usize;
     let end = reach(image);

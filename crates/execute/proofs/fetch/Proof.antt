@@ -6,14 +6,12 @@ use Rattle.execute.proofs.fetch.Lts as lts
 use Rattle.machine.proofs.memory.program_three.Reads as program-three-reads
 use Rattle.execute.specs.Execute.{codeAt}
 
--- src/lib.rt:29:9
 program-three-requires : tie.Need-program-three-requires
 program-three-requires c κs = search needs
 
--- src/lib.rt:26:1
 returns : tie.Need-returns
 unfolding codeAt
-returns c = rw (c .program-three .ensures .0, c .program-three .ensures .1, c .program-three .ensures .2)
+returns c = rw (c .program-three .ensures)
 
 pub fetch-spec : {M : Type 1} → statement M
 fetch-spec = tie.close (tie.spec program-three-requires returns)

@@ -7,78 +7,64 @@ use Rattle.machine.proofs.memory.program.Reads as program-reads
 use Rattle.machine.proofs.memory.reach.Reads as reach-reads
 use Rattle.word.proofs.plus.Reads as plus-reads
 use native.Mathlib.Omega.{arith}
-use mathlib.Core.Path.{_≡_, refl}
+use mathlib.Core.Path.{_≡_}
 use Prim.Native.Nat.{_+_, _<_}
 use lib.ListN.{length}
 use Rattle.word.specs.Words.{plus}
 use Rattle.machine.specs.Memory.{programByte}
 use Rattle.machine.proofs.Elements.{element}
 
--- src/memory.rt:43:9
 reach-requires : tie.Need-reach-requires
 reach-requires c κs = search needs
 
--- src/memory.rt:44:8
 add-if1 : tie.Need-add-if1
 add-if1 c = search needs
 
--- src/memory.rt:46:20
 shared-slice-read-t11 : tie.Need-shared-slice-read-t11
 shared-slice-read-t11 c = search needs
 
--- src/memory.rt:47:27
 add-t12 : tie.Need-add-t12
 add-t12 c = search needs
 
--- src/memory.rt:47:21
 shared-slice-read-t14 : tie.Need-shared-slice-read-t14
 shared-slice-read-t14 c = search needs
 
--- src/memory.rt:48:26
 add-t15 : tie.Need-add-t15
 add-t15 c = search needs
 
--- src/memory.rt:48:20
 shared-slice-read-t17 : tie.Need-shared-slice-read-t17
 shared-slice-read-t17 c = search needs
 
--- src/memory.rt:45:9
 returns : tie.Need-returns
 unfolding programByte
 returns c =
     let a = c .before .before .before .before .before .before .args .a in
     let l = c .before .before .before .before .before .before .args .image .now in
-    let end = c .before .before .before .before .reach .ensures in
+    let end = c .before .before .before .before .reach .ensures .1 in
     let within : a + 2 < c .before .before .before .before .reach .result = c .before .before .before .if1 .taken in
     let inside : a + 2 < length l = omega (arith, within, end .0) in
     let low : a + 2 < 65536 = omega (arith, within, end .1) in
     let one : plus a 1 ≡ a + 1 = omega (arith, low) in
     let two : plus a 2 ≡ a + 2 = omega (arith, low) in
-    (element l a _ _ (omega (arith, inside)), rw one (element l (a + 1) _ _ (omega (arith, inside))), rw two (element l (a + 2) _ _ inside))
+    rw (one, two, element l a 0xFF 0 (omega (arith, inside)), element l (a + 1) 0xFF 0 (omega (arith, inside)), element l (a + 2) 0xFF 0 inside)
 
--- src/memory.rt:51:9
 program-requires : tie.Need-program-requires
 program-requires c κs = search needs
 
--- src/memory.rt:52:33
 plus-requires : tie.Need-plus-requires
 plus-requires c κs = search needs
 
--- src/memory.rt:52:9
 program-requires-2 : tie.Need-program-requires-2
 program-requires-2 c κs = search needs
 
--- src/memory.rt:53:32
 plus-requires-2 : tie.Need-plus-requires-2
 plus-requires-2 c κs = search needs
 
--- src/memory.rt:53:9
 program-requires-3 : tie.Need-program-requires-3
 program-requires-3 c κs = search needs
 
--- src/memory.rt:39:1
 returns-2 : tie.Need-returns-2
-returns-2 c = rw (c .program3 .ensures, c .before .plus2 .ensures, c .before .before .program2 .ensures, c .before .before .before .plus .ensures, c .before .before .before .before .program .ensures) (refl, refl, refl)
+returns-2 c = rw (c .program3 .ensures, c .before .plus2 .ensures, c .before .before .program2 .ensures, c .before .before .before .plus .ensures, c .before .before .before .before .program .ensures)
 
 pub program-three-spec : {M : Type 1} → statement M
 program-three-spec =

@@ -1,0 +1,1257 @@
+/* The C calls themselves: every refusal alone and every two together, what a refused call leaves alone, runs
+   against steps, 01's own examples, and the header. What is expected comes from the reference or from 01's
+   own sentences. */
+#define _DEFAULT_SOURCE /* mmap's MAP_ANONYMOUS */
+#include <stdio.h>
+#include <stdlib.h>
+#include <string.h>
+#include <sys/mman.h>
+
+#include "../include/z8.h"
+#include "draw.h"
+#include "reference/bytes.h"
+#include "reference/machine.h"
+#include "reference/step.h"
+#include "report.h"
+
+#define SEED 1983ul
+#define GUARD 64u
+#define MEMORY 65536u
+
+/* Register places, by 002. */
+enum { TMR = 0xF1, T1 = 0xF2, PRE1 = 0xF3, T0 = 0xF4, PRE0 = 0xF5, P01M = 0xF8, IPR = 0xF9 };
+enum { IRQ = 0xFA, IMR = 0xFB, FLAGS = 0xFC, RP = 0xFD, SPH = 0xFE, SPL = 0xFF };
+
+static unsigned long checks, failed;
+
+/* After so many the rest tells no more. */
+#define FAILURES_TOLD 20ul
+
+static int check(int passed, const char *what)
+{
+    checks++;
+    if (!passed) {
+        failed++;
+        if (failed <= FAILURES_TOLD) {
+            printf("FAILED: %s\n", what);
+        }
+    }
+    return passed;
+}
+
+static int check_number(unsigned long expected, unsigned long found, const char *what)
+{
+    if (!check(expected == found, what) && failed <= FAILURES_TOLD) {
+        printf("  expected %lu (%lX), found %lu (%lX)\n", expected, expected, found, found);
+    }
+    return expected == found;
+}
+
+/* ---- What a call is lent ---- */
+
+struct lent {
+    uint8_t saved[GUARD + 300 + GUARD];
+    uint8_t image[GUARD + MEMORY + 1 + GUARD];
+    uint8_t data[GUARD + MEMORY + 1 + GUARD];
+    uint32_t numbers[7]; /* the odd ones are written, those around them are guards */
+    uint8_t bytes[9];    /* the same */
+};
+
+static struct lent lent, lent_before;
+
+struct arguments {
+    int saved_is_null, image_is_null, data_is_null;
+    size_t saved_length, image_length, data_length;
+    uint32_t budget, type, entry_cost;
+    uint16_t at;
+    uint8_t opcode, first, second;
+};
+
+static uint8_t *saved_of(const struct arguments *a)
+{
+    return a->saved_is_null ? NULL : lent.saved + GUARD;
+}
+
+static uint8_t *image_of(const struct arguments *a)
+{
+    return a->image_is_null ? NULL : lent.image + GUARD;
+}
+
+static uint8_t *data_of(const struct arguments *a)
+{
+    return a->data_is_null ? NULL : lent.data + GUARD;
+}
+
+#define BASE_PC 0x1234u
+
+/* A machine to which a wrong call would do much: falling edges on all lines, T1 counting them and near its
+   end, both timers near their ends, an external stack, no grant that would come before the opcode. */
+static void base_machine(uint8_t *saved)
+{
+    struct ref_machine m;
+
+    ref_make(&m, 11, 20);
+    ref_save(&m, saved);
+    saved[TMR] = 0x8A;
+    saved[PRE0] = 0x05;
+    saved[PRE1] = 0x05;
+    saved[Z8_AT_T0_PRESCALER] = saved[Z8_AT_T0_COUNTER] = 1;
+    saved[Z8_AT_T1_PRESCALER] = saved[Z8_AT_T1_COUNTER] = 1;
+    saved[Z8_AT_DIVIDER] = 3;
+    saved[P01M] = 0;
+    saved[SPH] = 0x20;
+    saved[Z8_AT_PC] = BASE_PC / 256;
+    saved[Z8_AT_PC + 1] = BASE_PC % 256;
+}
+
+/* Everything as it has to be for a call to be answered with 0: a whole image with PUSH %00 at the program
+   counter. */
+static void base_call(struct arguments *a)
+{
+    memset(&lent, 0x5A, sizeof lent);
+    base_machine(lent.saved + GUARD);
+    lent.image[GUARD + BASE_PC] = 0x70;
+    lent.image[GUARD + BASE_PC + 1] = 0x00;
+    memset(a, 0, sizeof *a);
+    a->saved_length = Z8_SAVED_LEN;
+    a->image_length = MEMORY;
+    a->data_length = MEMORY;
+    a->budget = 100;
+    a->type = 1;
+    a->entry_cost = 63;
+    a->at = BASE_PC;
+    a->opcode = 0x70;
+}
+
+/* ---- The calls, all in one form ---- */
+
+static uint32_t call_make(const struct arguments *a)
+{
+    return z8_make(saved_of(a), a->saved_length, a->type, a->entry_cost);
+}
+
+static uint32_t call_make_default(const struct arguments *a)
+{
+    return z8_make_default(saved_of(a), a->saved_length);
+}
+
+static uint32_t call_check(const struct arguments *a)
+{
+    return z8_check(saved_of(a), a->saved_length);
+}
+
+static uint32_t call_reset(const struct arguments *a)
+{
+    return z8_reset(saved_of(a), a->saved_length);
+}
+
+static uint32_t call_decode(const struct arguments *a)
+{
+    return z8_decode(image_of(a), a->image_length, a->at, &lent.bytes[1], &lent.bytes[3], &lent.bytes[5],
+                     &lent.bytes[7]);
+}
+
+static uint32_t call_encode(const struct arguments *a)
+{
+    return z8_encode(a->opcode, a->first, a->second, &lent.bytes[1], &lent.bytes[3], &lent.bytes[5],
+                     &lent.bytes[7]);
+}
+
+static uint32_t call_step(const struct arguments *a)
+{
+    return z8_step(saved_of(a), a->saved_length, image_of(a), a->image_length, data_of(a), a->data_length, 1,
+                   2, 3, 0, &lent.numbers[1], &lent.numbers[3], &lent.numbers[5]);
+}
+
+static uint32_t call_run(const struct arguments *a)
+{
+    return z8_run(saved_of(a), a->saved_length, image_of(a), a->image_length, data_of(a), a->data_length, 1,
+                  2, 3, 0, a->budget, &lent.numbers[1], &lent.numbers[3], &lent.numbers[5]);
+}
+
+static uint32_t call_span(const struct arguments *a)
+{
+    return z8_span(saved_of(a), a->saved_length, a->budget, &lent.numbers[3], &lent.numbers[5]);
+}
+
+/* Refusals by their number, as bits. */
+#define MEETS(number) (1u << (number))
+#define MEETS_MACHINE (MEETS(7) | MEETS(6))
+
+struct call {
+    const char *name;
+    uint32_t (*make)(const struct arguments *a);
+    unsigned meets; /* which refusals it can meet, by z8.h and 01's table */
+};
+
+static const struct call calls[] = {
+    {"z8_make", call_make, MEETS(7) | MEETS(3)},
+    {"z8_make_default", call_make_default, MEETS(7)},
+    {"z8_check", call_check, MEETS_MACHINE},
+    {"z8_reset", call_reset, MEETS_MACHINE},
+    {"z8_decode", call_decode, MEETS(1) | MEETS(5)},
+    {"z8_encode", call_encode, MEETS(8)},
+    {"z8_step", call_step, MEETS_MACHINE | MEETS(1) | MEETS(2) | MEETS(5)},
+    {"z8_run", call_run, MEETS_MACHINE | MEETS(1) | MEETS(2) | MEETS(4) | MEETS(5)},
+    {"z8_span", call_span, MEETS_MACHINE},
+};
+
+#define CALLS (sizeof calls / sizeof calls[0])
+
+/* ---- Faults ---- */
+
+struct fault {
+    uint32_t number; /* the refusal */
+    void (*make)(struct arguments *a, uint32_t value);
+    uint32_t value;
+    const char *what; /* two faults in the same thing can't be made together */
+};
+
+static void fault_length(struct arguments *a, uint32_t value)
+{
+    a->saved_length = value;
+    a->saved_is_null = value == 0;
+}
+
+/* value: the place, and 1000 times the byte. */
+static void fault_byte(struct arguments *a, uint32_t value)
+{
+    (void)a;
+    lent.saved[GUARD + value % 1000] = (uint8_t)(value / 1000);
+}
+
+static void fault_image(struct arguments *a, uint32_t value)
+{
+    a->image_length = value;
+}
+
+static void fault_data(struct arguments *a, uint32_t value)
+{
+    a->data_length = value;
+}
+
+static void fault_type(struct arguments *a, uint32_t value)
+{
+    a->type = value;
+}
+
+static void fault_cost(struct arguments *a, uint32_t value)
+{
+    a->entry_cost = value;
+}
+
+static void fault_budget(struct arguments *a, uint32_t value)
+{
+    a->budget = value;
+}
+
+static void fault_opcode(struct arguments *a, uint32_t value)
+{
+    (void)a;
+    lent.image[GUARD + BASE_PC] = (uint8_t)value;
+}
+
+static void fault_instruction(struct arguments *a, uint32_t value)
+{
+    a->opcode = (uint8_t)value;
+}
+
+/* Of a one-byte instruction. */
+static void fault_first(struct arguments *a, uint32_t value)
+{
+    a->opcode = a->opcode == 0x70 ? 0xFF : a->opcode;
+    a->first = (uint8_t)value;
+}
+
+static void fault_second(struct arguments *a, uint32_t value)
+{
+    a->second = (uint8_t)value;
+}
+
+#define FAULTS_MOST 200
+static struct fault faults[FAULTS_MOST];
+static size_t fault_count;
+
+static void add_fault(uint32_t number, void (*make)(struct arguments *, uint32_t), uint32_t value,
+                      const char *what)
+{
+    struct fault *f = &faults[fault_count++];
+
+    if (fault_count >= FAULTS_MOST) {
+        printf("too many faults for the table\n");
+        exit(2);
+    }
+    f->number = number;
+    f->make = make;
+    f->value = value;
+    f->what = what;
+}
+
+static void add_illegal_byte(unsigned place, unsigned byte, const char *what)
+{
+    add_fault(6, fault_byte, place + 1000 * byte, what);
+}
+
+/* 01: "Legal: [...]", each rule broken alone at the edges of its range. */
+static void add_illegal_machines(void)
+{
+    add_illegal_byte(Z8_AT_DIVIDER, 4, "divider");
+    add_illegal_byte(Z8_AT_DIVIDER, 255, "divider");
+    add_illegal_byte(Z8_AT_T0_PRESCALER, 0, "T0 prescaler");
+    add_illegal_byte(Z8_AT_T0_PRESCALER, 65, "T0 prescaler");
+    add_illegal_byte(Z8_AT_T1_PRESCALER, 0, "T1 prescaler");
+    add_illegal_byte(Z8_AT_T1_PRESCALER, 65, "T1 prescaler");
+    add_illegal_byte(Z8_AT_ENTRY_COST, 5, "entry cost");
+    add_illegal_byte(Z8_AT_ENTRY_COST, 64, "entry cost");
+    add_illegal_byte(Z8_AT_T_OUT, 2, "T_OUT");
+    add_illegal_byte(Z8_AT_TYPE, 0, "type");
+    add_illegal_byte(Z8_AT_TYPE, 12, "type");
+    add_illegal_byte(Z8_AT_ZERO, 1, "byte 267");
+    add_illegal_byte(0x80, 1, "place 80");
+    add_illegal_byte(0xEF, 0x80, "place EF");
+    add_illegal_byte(0xF0, 0xFF, "place F0");
+    add_illegal_byte(TMR, 0x01, "TMR");
+    add_illegal_byte(TMR, 0x04, "TMR");
+    add_illegal_byte(IRQ, 0x40, "IRQ");
+    add_illegal_byte(IRQ, 0x80, "IRQ");
+    add_illegal_byte(RP, 0x01, "RP");
+    add_illegal_byte(RP, 0x02, "RP");
+    add_illegal_byte(RP, 0x04, "RP");
+    add_illegal_byte(RP, 0x08, "RP");
+}
+
+static void add_makings(void)
+{
+    static const uint32_t types[] = {0, 2, 10, 12, 257, 256 + 11, 65536 + 11, 4294967295u};
+    static const uint32_t costs[] = {0, 5, 64, 256 + 20, 65536 + 20, 4294967295u};
+    size_t k;
+
+    for (k = 0; k < sizeof types / sizeof types[0]; k++) {
+        add_fault(3, fault_type, types[k], "type at making");
+    }
+    for (k = 0; k < sizeof costs / sizeof costs[0]; k++) {
+        add_fault(3, fault_cost, costs[k], "entry cost at making");
+    }
+}
+
+static void add_opcodes(void)
+{
+    int opcode;
+
+    for (opcode = 0; opcode < 256; opcode++) {
+        if (!ref_defined(opcode)) {
+            add_fault(5, fault_opcode, (uint32_t)opcode, "opcode in the image");
+            add_fault(8, fault_instruction, (uint32_t)opcode, "opcode to encode");
+        }
+    }
+    add_fault(8, fault_first, 1, "unused first operand");
+    add_fault(8, fault_first, 255, "unused first operand");
+    add_fault(8, fault_second, 1, "unused second operand");
+    add_fault(8, fault_second, 255, "unused second operand");
+}
+
+static void list_faults(void)
+{
+    add_fault(7, fault_length, 0, "saved length");
+    add_fault(7, fault_length, 1, "saved length");
+    add_fault(7, fault_length, 267, "saved length");
+    add_fault(7, fault_length, 269, "saved length");
+    add_illegal_machines();
+    add_fault(1, fault_image, 65537, "image length");
+    add_fault(2, fault_data, 65537, "data length");
+    add_makings();
+    add_fault(4, fault_budget, 1000001, "budget");
+    add_fault(4, fault_budget, 4294967295u, "budget");
+    add_opcodes();
+}
+
+/* 01: "The first that applies, tested in the order 7, 6, 1, 2, 3, 4, 5, 8". */
+static uint32_t first_refusal(uint32_t one, uint32_t other)
+{
+    static const uint32_t order[] = {7, 6, 1, 2, 3, 4, 5, 8};
+    size_t k;
+
+    for (k = 0; k < sizeof order / sizeof order[0]; k++) {
+        if (order[k] == one || order[k] == other) {
+            break;
+        }
+    }
+    return order[k];
+}
+
+/* 01: "number alone, nothing changed"; of a run's 5: "cycles and ends as after the steps done before", here
+   none. */
+static void check_bytes(const void *before, const void *now, size_t size, const char *which, const char *what)
+{
+    if (!check(memcmp(before, now, size) == 0, what) && failed <= FAILURES_TOLD) {
+        printf("  %s changed that should have stayed\n", which);
+    }
+}
+
+static void expect_left_alone(const char *what, int zeros_in_numbers)
+{
+    if (zeros_in_numbers) {
+        lent_before.numbers[1] = lent_before.numbers[3] = lent_before.numbers[5] = 0;
+    }
+    check_bytes(lent.saved, lent_before.saved, sizeof lent.saved, "a byte of or around the machine", what);
+    check_bytes(lent.image, lent_before.image, sizeof lent.image, "a byte of or around the image", what);
+    check_bytes(lent.data, lent_before.data, sizeof lent.data, "a byte of or around data memory", what);
+    check_bytes(lent.numbers, lent_before.numbers, sizeof lent.numbers, "cycles, ends or what is beside",
+                what);
+    check_bytes(lent.bytes, lent_before.bytes, sizeof lent.bytes, "a decoded or encoded byte", what);
+}
+
+static void expect_refusal(const struct call *call, const struct arguments *a, uint32_t number,
+                           const char *what)
+{
+    memcpy(&lent_before, &lent, sizeof lent);
+    check_number(number, call->make(a), what);
+    expect_left_alone(what, call->make == call_run && number == 5);
+}
+
+static void name_faults(char *what, const struct call *call, const struct fault *one,
+                        const struct fault *other)
+{
+    int length = sprintf(what, "%s with %s %lu (%lX), refusal %lu", call->name, one->what,
+                         (unsigned long)one->value, (unsigned long)one->value, (unsigned long)one->number);
+
+    if (other != one) {
+        sprintf(what + length, ", and %s %lu (%lX), refusal %lu", other->what, (unsigned long)other->value,
+                (unsigned long)other->value, (unsigned long)other->number);
+    }
+}
+
+static void check_two_faults(const struct call *call, const struct fault *one, const struct fault *other)
+{
+    struct arguments a;
+    char what[250];
+
+    base_call(&a);
+    one->make(&a, one->value);
+    other->make(&a, other->value);
+    name_faults(what, call, one, other);
+    expect_refusal(call, &a, first_refusal(one->number, other->number), what);
+}
+
+static int meets(const struct call *call, const struct fault *f)
+{
+    return (call->meets & MEETS(f->number)) != 0;
+}
+
+/* Alone (a fault with itself) and every two. */
+static void check_faults(const struct call *call)
+{
+    size_t i, j;
+
+    for (i = 0; i < fault_count; i++) {
+        for (j = i; j < fault_count; j++) {
+            if (meets(call, &faults[i]) && meets(call, &faults[j])
+                && (i == j || strcmp(faults[i].what, faults[j].what) != 0)) {
+                check_two_faults(call, &faults[i], &faults[j]);
+            }
+        }
+    }
+}
+
+/* Nothing around what a call may write: the machine, the data memory, three numbers, four bytes. */
+static int guards_stand(void)
+{
+    size_t at, saved_end = GUARD + Z8_SAVED_LEN, data_end = GUARD + MEMORY;
+
+    for (at = 0; at < sizeof lent.numbers / sizeof lent.numbers[0]; at += 2) {
+        if (lent.numbers[at] != lent_before.numbers[at]) {
+            return 0;
+        }
+    }
+    for (at = 0; at < sizeof lent.bytes; at += 2) {
+        if (lent.bytes[at] != lent_before.bytes[at]) {
+            return 0;
+        }
+    }
+    return memcmp(lent.saved, lent_before.saved, GUARD) == 0
+           && memcmp(lent.saved + saved_end, lent_before.saved + saved_end, sizeof lent.saved - saved_end)
+                  == 0
+           && memcmp(lent.image, lent_before.image, sizeof lent.image) == 0
+           && memcmp(lent.data, lent_before.data, GUARD) == 0
+           && memcmp(lent.data + data_end, lent_before.data + data_end, sizeof lent.data - data_end) == 0;
+}
+
+/* Without a fault each is answered with 0, so what was refused above was refused for its fault. */
+static void check_no_fault(const struct call *call)
+{
+    struct arguments a;
+
+    base_call(&a);
+    memcpy(&lent_before, &lent, sizeof lent);
+    check_number(0, call->make(&a), call->name);
+    check(guards_stand(), call->name);
+}
+
+static void check_all_faults(void)
+{
+    size_t k;
+
+    list_faults();
+    for (k = 0; k < CALLS; k++) {
+        check_no_fault(&calls[k]);
+        check_faults(&calls[k]);
+    }
+}
+
+/* ---- Saved machines that are none ---- */
+
+static void check_machine_in_every_call(const char *what)
+{
+    uint8_t given[GUARD + 300 + GUARD];
+    uint32_t expected = (uint32_t)ref_check(lent.saved + GUARD, Z8_SAVED_LEN);
+    size_t k;
+
+    memcpy(given, lent.saved, sizeof given);
+    for (k = 0; k < CALLS; k++) {
+        struct arguments a;
+
+        if (!(calls[k].meets & MEETS(6))) {
+            continue;
+        }
+        base_call(&a);
+        memcpy(lent.saved, given, sizeof given);
+        if (expected == 6) {
+            expect_refusal(&calls[k], &a, 6, what);
+        } else {
+            check(calls[k].make(&a) != 6, what);
+        }
+    }
+}
+
+/* Each place with each value: those that are legal and those that aren't. */
+static void check_every_value_of_every_place(void)
+{
+    unsigned place, value;
+    struct arguments a;
+    uint32_t found;
+    char what[80];
+
+    for (place = 0; place < Z8_SAVED_LEN; place++) {
+        for (value = 0; value < 256; value++) {
+            uint8_t saved[Z8_SAVED_LEN];
+
+            base_machine(saved);
+            saved[place] = (uint8_t)value;
+            found = z8_check(saved, Z8_SAVED_LEN);
+            sprintf(what, "z8_check with %s = %02X", name_of_saved_byte(place), value);
+            check_number((unsigned long)ref_check(saved, Z8_SAVED_LEN), found, what);
+        }
+        /* The other calls with a few values, as each compares much. */
+        for (value = 1; value < 256; value = value * 2 + 1) {
+            base_call(&a);
+            lent.saved[GUARD + place] = (uint8_t)value;
+            sprintf(what, "a call with %s = %02X", name_of_saved_byte(place), value);
+            check_machine_in_every_call(what);
+        }
+    }
+}
+
+static void check_random_bytes(void)
+{
+    unsigned long number;
+
+    for (number = 0; number < 2000; number++) {
+        uint8_t saved[300];
+        struct dice d;
+        size_t length, at;
+        char what[60];
+
+        dice_for_case(&d, SEED, number);
+        for (at = 0; at < sizeof saved; at++) {
+            saved[at] = any_byte(&d);
+        }
+        length = one_in(&d, 2) ? Z8_SAVED_LEN : below(&d, sizeof saved);
+        sprintf(what, "random bytes %lu, length %lu", number, (unsigned long)length);
+        check_number((unsigned long)ref_check(saved, length), z8_check(saved, length), what);
+        if (number % 20 == 0) {
+            memcpy(lent.saved + GUARD, saved, Z8_SAVED_LEN);
+            check_machine_in_every_call(what);
+        }
+    }
+}
+
+/* ---- Lengths and numbers at their limits ---- */
+
+static void check_lengths_that_are_fine(void)
+{
+    struct arguments a;
+
+    base_call(&a);
+    a.image_length = 0;
+    a.image_is_null = 1;
+    check_number(0, call_step(&a), "z8_step without an image: FF is NOP");
+    check_number(6, lent.numbers[1], "NOP's cycles");
+    check_number(BASE_PC + 1, lent.saved[GUARD + Z8_AT_PC] * 256ul + lent.saved[GUARD + Z8_AT_PC + 1],
+                 "after NOP");
+
+    base_call(&a);
+    a.image_length = 0;
+    a.image_is_null = 1;
+    check_number(0, call_decode(&a), "z8_decode without an image: FF is NOP");
+    check_number(0xFF, lent.bytes[1], "NOP decoded");
+    check_number(1, lent.bytes[7], "NOP's length");
+
+    base_call(&a);
+    a.data_length = 0;
+    a.data_is_null = 1;
+    check_number(0, call_step(&a), "z8_step without data memory: the push is dropped");
+    base_call(&a);
+    a.data_length = 0;
+    a.data_is_null = 1;
+    check_number(0, call_run(&a), "z8_run without data memory");
+
+    base_call(&a);
+    a.budget = 1000000;
+    lent.image[GUARD + BASE_PC] = 0x8B; /* JR to itself */
+    lent.image[GUARD + BASE_PC + 1] = 0xFE;
+    check_number(0, call_run(&a), "z8_run with budget 1,000,000");
+    check(lent.numbers[1] >= 1000000 && lent.numbers[1] <= 1000000 + Z8_OVERRUN_MOST, "its cycles");
+}
+
+static void check_making(uint32_t type, uint32_t cost)
+{
+    struct ref_machine m;
+    uint8_t expected[Z8_SAVED_LEN];
+    struct arguments a;
+    uint32_t answer;
+    char what[80];
+
+    base_call(&a);
+    memcpy(expected, lent.saved + GUARD, Z8_SAVED_LEN);
+    answer = (uint32_t)ref_make(&m, type, cost);
+    if (answer == 0) {
+        ref_save(&m, expected);
+    }
+    a.type = type;
+    a.entry_cost = cost;
+    sprintf(what, "z8_make with type %lu and entry cost %lu", (unsigned long)type, (unsigned long)cost);
+    check_number(answer, call_make(&a), what);
+    check(memcmp(expected, lent.saved + GUARD, Z8_SAVED_LEN) == 0, what);
+}
+
+/* 01, edges to run: "entry cost 5, 6, 63, 64"; and numbers that fit only where a number is cut short. */
+static void check_makings(void)
+{
+    static const uint32_t types[] = {0,   1,   2,   10,    11,    12,          255,
+                                     256, 257, 267, 65537, 65547, 0x80000001u, 4294967295u};
+    static const uint32_t costs[] = {0,   5,   6,   20,    63,          64,         255,
+                                     256, 262, 276, 65556, 0x80000014u, 4294967295u};
+    size_t i, j;
+
+    for (i = 0; i < sizeof types / sizeof types[0]; i++) {
+        for (j = 0; j < sizeof costs / sizeof costs[0]; j++) {
+            check_making(types[i], costs[j]);
+        }
+    }
+}
+
+/* 01: "R4 to R127, type and entry cost stay". */
+static void check_resets(void)
+{
+    unsigned long number;
+
+    for (number = 0; number < 100; number++) {
+        uint8_t machine[Z8_SAVED_LEN], expected[Z8_SAVED_LEN];
+        struct lean lean = {1, 2048, 8192};
+        struct ref_machine m;
+        struct dice d;
+
+        dice_for_case(&d, SEED + 4, number);
+        draw_machine(&d, &lean, machine);
+        ref_load(&m, machine);
+        ref_reset(&m);
+        ref_save(&m, expected);
+        check_number(0, z8_reset(machine, Z8_SAVED_LEN), "z8_reset");
+        check(memcmp(expected, machine, Z8_SAVED_LEN) == 0, "a machine after z8_reset");
+    }
+}
+
+/* Lengths that are right modulo 2^32 only. The bytes are there, as z8.h asks, but few of them are written. */
+static void check_lengths_past_32_bits(void)
+{
+    size_t length = ((size_t)1 << 32) + 1024;
+    uint8_t *much =
+        mmap(NULL, length, PROT_READ | PROT_WRITE, MAP_PRIVATE | MAP_ANONYMOUS | MAP_NORESERVE, -1, 0);
+    struct arguments a;
+    uint32_t cycles = UNTOUCHED, ends0 = UNTOUCHED, ends1 = UNTOUCHED;
+    uint8_t opcode, first, second, bytes;
+
+    if (much == MAP_FAILED) {
+        printf("calls: no room for lengths past 32 bits, so these were left out\n");
+        return;
+    }
+    base_call(&a);
+    base_machine(much);
+    length = ((size_t)1 << 32) + Z8_SAVED_LEN;
+    check_number(7, z8_check(much, length), "z8_check with 2^32 + 268 bytes");
+    check_number(7, z8_reset(much, length), "z8_reset with 2^32 + 268 bytes");
+    check_number(7, z8_make(much, length, 11, 20), "z8_make with 2^32 + 268 bytes");
+    check_number(7, z8_make_default(much, length), "z8_make_default with 2^32 + 268 bytes");
+    check_number(7, z8_span(much, length, 1, &ends0, &ends1), "z8_span with 2^32 + 268 bytes");
+    length = (size_t)1 << 32;
+    check_number(1, z8_decode(much, length, 0, &opcode, &first, &second, &bytes),
+                 "z8_decode with an image of 2^32 bytes");
+    check_number(
+        1, z8_step(saved_of(&a), Z8_SAVED_LEN, much, length, NULL, 0, 0, 0, 0, 0, &cycles, &ends0, &ends1),
+        "z8_step with an image of 2^32 bytes");
+    check_number(
+        2, z8_run(saved_of(&a), Z8_SAVED_LEN, NULL, 0, much, length, 0, 0, 0, 0, 10, &cycles, &ends0, &ends1),
+        "z8_run with a data memory of 2^32 bytes");
+    check(cycles == UNTOUCHED && ends0 == UNTOUCHED && ends1 == UNTOUCHED, "no number written");
+    munmap(much, ((size_t)1 << 32) + 1024);
+}
+
+/* ---- Runs and steps ---- */
+
+struct totals {
+    uint32_t answer, steps, cycles, ends0, ends1;
+};
+
+static const uint8_t pins[4] = {0x12, 0x34, 0x56, 0x70};
+
+/* Steps until the budget is reached or one is refused. */
+static void step_until(uint8_t *saved, const uint8_t *image, size_t image_length, uint8_t *data,
+                       size_t data_length, uint32_t budget, struct totals *t)
+{
+    memset(t, 0, sizeof *t);
+    while (t->cycles < budget) {
+        uint32_t cycles, ends0, ends1;
+
+        t->answer = z8_step(saved, Z8_SAVED_LEN, image, image_length, data, data_length, pins[0], pins[1],
+                            pins[2], pins[3], &cycles, &ends0, &ends1);
+        if (t->answer != 0) {
+            break;
+        }
+        t->steps++;
+        t->cycles += cycles;
+        t->ends0 += ends0;
+        t->ends1 += ends1;
+    }
+}
+
+static uint8_t stepped_data[MEMORY], run_data[MEMORY], reference_data[MEMORY];
+
+static void run_and_compare_with_steps(const uint8_t *given, const uint8_t *image, size_t image_length,
+                                       size_t data_length, uint32_t budget, struct totals *stepped,
+                                       const char *what)
+{
+    uint8_t stepped_machine[Z8_SAVED_LEN], run_machine[Z8_SAVED_LEN], reference_machine[Z8_SAVED_LEN];
+    struct ref_pins reference_pins;
+    struct ref_machine m;
+    struct totals run, reference;
+
+    memcpy(stepped_machine, given, Z8_SAVED_LEN);
+    memcpy(run_machine, given, Z8_SAVED_LEN);
+    memset(stepped_data, 0xC3, MEMORY);
+    memset(run_data, 0xC3, MEMORY);
+    memset(reference_data, 0xC3, MEMORY);
+    memcpy(reference_pins.port, pins, 4);
+
+    step_until(stepped_machine, image, image_length, stepped_data, data_length, budget, stepped);
+    run.answer = z8_run(run_machine, Z8_SAVED_LEN, image, image_length, run_data, data_length, pins[0],
+                        pins[1], pins[2], pins[3], budget, &run.cycles, &run.ends0, &run.ends1);
+    ref_load(&m, given);
+    reference.answer =
+        (uint32_t)ref_run(&m, &reference_pins, image, image_length, reference_data, data_length, budget,
+                          &reference.cycles, &reference.ends0, &reference.ends1);
+    ref_save(&m, reference_machine);
+
+    check_number(stepped->answer, run.answer, what);
+    check_number(stepped->cycles, run.cycles, what);
+    check_number(stepped->ends0, run.ends0, what);
+    check_number(stepped->ends1, run.ends1, what);
+    check(memcmp(stepped_machine, run_machine, Z8_SAVED_LEN) == 0, what);
+    check(memcmp(stepped_data, run_data, MEMORY) == 0, what);
+
+    check_number(reference.answer, run.answer, what);
+    check_number(reference.cycles, run.cycles, what);
+    check_number(reference.ends0, run.ends0, what);
+    check_number(reference.ends1, run.ends1, what);
+    check(memcmp(reference_machine, run_machine, Z8_SAVED_LEN) == 0, what);
+    check(memcmp(reference_data, run_data, MEMORY) == 0, what);
+}
+
+/* k instructions that move registers, data memory, the external stack and the clock, and an undefined opcode
+   after. */
+static size_t write_program_of(uint8_t *image, unsigned k)
+{
+    static const uint8_t in_turn[4][2] = {
+        {0x2E, 0},    /* INC R2 */
+        {0x92, 0x24}, /* LDE @RR4,R2 */
+        {0x5E, 0},    /* INC R5 */
+        {0x70, 0xE2}, /* PUSH R2 */
+    };
+    size_t at = BASE_PC;
+    unsigned done;
+
+    memset(image, 0xFF, MEMORY);
+    for (done = 0; done < k; done++) {
+        const uint8_t *bytes = in_turn[done % 4];
+
+        image[at++] = bytes[0];
+        if (ref_length(bytes[0]) == 2) {
+            image[at++] = bytes[1];
+        }
+    }
+    image[at] = 0x4F;
+    return at;
+}
+
+static void check_runs_stopped_by_an_opcode(void)
+{
+    static const unsigned counts[] = {0, 1, 2, 3, 4, 10, 100, 1000};
+    static uint8_t image[MEMORY];
+    uint8_t machine[Z8_SAVED_LEN];
+    struct totals stepped;
+    char what[60];
+    size_t i;
+
+    base_machine(machine);
+    machine[RP] = 0x10;
+    machine[0x14] = 0x30;
+    machine[Z8_AT_PORT3] = 0xFF;
+    for (i = 0; i < sizeof counts / sizeof counts[0]; i++) {
+        write_program_of(image, counts[i]);
+        sprintf(what, "a run stopped by 5 after %u steps", counts[i]);
+        run_and_compare_with_steps(machine, image, MEMORY, MEMORY, 1000000, &stepped, what);
+        check_number(counts[i], stepped.steps, what);
+        check_number(5, stepped.answer, what);
+    }
+}
+
+static void check_runs_against_steps(void)
+{
+    static const uint32_t budgets[] = {0, 1, 2, 5, 6, 7, 11, 12, 13, 59, 62, 63, 64, 200, 1000, 5000};
+    static uint8_t image[2048];
+    unsigned long number, most_over = 0;
+
+    for (number = 0; number < 300; number++) {
+        uint8_t machine[Z8_SAVED_LEN];
+        struct totals stepped;
+        struct lean lean = {1, 2048, 8192};
+        struct dice d;
+        uint32_t budget;
+        char what[60];
+        size_t at;
+
+        dice_for_case(&d, SEED + 1, number);
+        draw_machine(&d, &lean, machine);
+        machine[Z8_AT_PC] &= 7;
+        for (at = 0; at < sizeof image; at++) {
+            image[at] = any_byte(&d);
+            image[at] = (uint8_t)(ref_defined(image[at]) || one_in(&d, 10) ? image[at] : 0xFF);
+        }
+        budget = one_of(&d, budgets, sizeof budgets / sizeof budgets[0]);
+        sprintf(what, "run and steps, case %lu, budget %lu", number, (unsigned long)budget);
+        run_and_compare_with_steps(machine, image, sizeof image, 8192, budget, &stepped, what);
+        if (stepped.answer == 0) {
+            check(stepped.cycles >= budget, what);
+            check(stepped.cycles <= budget + Z8_OVERRUN_MOST || budget == 0, what);
+            most_over = stepped.cycles - budget > most_over ? stepped.cycles - budget : most_over;
+        }
+    }
+    check(most_over > 20, "some run spent more over its budget than any instruction costs");
+}
+
+/* 01: "so it spends at most 62 cycles over", and an entry of 63 with budget 1 does. */
+static void check_longest_overrun(void)
+{
+    uint8_t machine[Z8_SAVED_LEN], image[16] = {0};
+    struct totals stepped;
+
+    base_machine(machine);
+    machine[IPR] = 0x08;
+    machine[IMR] = 0x81;
+    machine[IRQ] = 0x01;
+    machine[Z8_AT_ENTRY_COST] = 63;
+    run_and_compare_with_steps(machine, image, sizeof image, 0, 1, &stepped,
+                               "budget 1 and an entry of 63 cycles");
+    check_number(1 + Z8_OVERRUN_MOST, stepped.cycles, "the longest overrun");
+}
+
+/* 01: "Budget 0 changes nothing": no edge is latched and no opcode met, and the numbers are 0. */
+static void check_budget_0(void)
+{
+    struct arguments a;
+
+    base_call(&a);
+    a.budget = 0;
+    lent.image[GUARD + BASE_PC] = 0x4F;
+    memcpy(&lent_before, &lent, sizeof lent);
+    check_number(0, call_run(&a), "budget 0");
+    expect_left_alone("budget 0", 1);
+}
+
+/* ---- Two machines in turn are two machines alone ---- */
+
+#define SLICES 40
+
+struct pair_of_runs {
+    uint8_t machine[2][Z8_SAVED_LEN];
+    uint32_t cycles[2], ends0[2], ends1[2];
+};
+
+static uint8_t pair_data[2][8192];
+
+static void start_pair(struct pair_of_runs *p)
+{
+    struct lean lean = {1, 2048, 8192};
+    struct dice d;
+    int which;
+
+    memset(p, 0, sizeof *p);
+    for (which = 0; which < 2; which++) {
+        dice_for_case(&d, SEED + 2, (unsigned long)which);
+        draw_machine(&d, &lean, p->machine[which]);
+        p->machine[which][Z8_AT_PC] = 0;
+        memset(pair_data[which], 0x3C + which, sizeof pair_data[which]);
+    }
+}
+
+static void run_slice(struct pair_of_runs *p, int which, const uint8_t *image, size_t length, int slice)
+{
+    uint32_t cycles, ends0, ends1;
+
+    z8_run(p->machine[which], Z8_SAVED_LEN, image, length, pair_data[which], sizeof pair_data[which], 1, 2, 3,
+           (uint8_t)(slice * 37 + which), (uint32_t)(slice * 13 % 97), &cycles, &ends0, &ends1);
+    p->cycles[which] += cycles;
+    p->ends0[which] += ends0;
+    p->ends1[which] += ends1;
+}
+
+static void check_interleaved(void)
+{
+    static uint8_t data_alone[2][8192];
+    struct pair_of_runs alone, in_turn;
+    uint8_t image[2048];
+    struct dice d;
+    size_t at;
+    int slice, which;
+
+    dice_for_case(&d, SEED + 3, 0);
+    for (at = 0; at < sizeof image; at++) {
+        image[at] = any_byte(&d);
+        image[at] = ref_defined(image[at]) ? image[at] : 0x9F;
+    }
+    start_pair(&alone);
+    for (which = 0; which < 2; which++) {
+        for (slice = 0; slice < SLICES; slice++) {
+            run_slice(&alone, which, image, sizeof image, slice);
+        }
+    }
+    memcpy(data_alone, pair_data, sizeof pair_data);
+    start_pair(&in_turn);
+    for (slice = 0; slice < SLICES; slice++) {
+        run_slice(&in_turn, slice % 2, image, sizeof image, slice);
+        run_slice(&in_turn, 1 - slice % 2, image, sizeof image, slice);
+    }
+    check(memcmp(&alone, &in_turn, sizeof alone) == 0, "two machines in turn as alone");
+    check(memcmp(data_alone, pair_data, sizeof pair_data) == 0, "their data memories in turn as alone");
+    check(alone.cycles[0] > 500 && alone.cycles[1] > 500, "and both ran");
+}
+
+/* ---- 01's proved examples ---- */
+
+enum { C = 0x80, Z = 0x40, S = 0x20, V = 0x10, D = 0x08, H = 0x04 };
+
+struct example {
+    const char *words;
+    uint8_t bytes[2];
+    uint8_t dst, src, flags_before;
+    uint8_t result, flags_set, flags_clear;
+};
+
+/* Working group 10; the first register is R5, the second R6. Flags that 01 names as clear are set before, and
+   the other way round, except where they are the example's own beginning. */
+static const struct example examples[] = {
+    {"44 + 11 = 55, flags C Z S V D H clear", {0x02, 0x56}, 0x44, 0x11, 0xFC, 0x55, 0, C | Z | S | V | D | H},
+    {"7B AND C3 = 43", {0x52, 0x56}, 0x7B, 0xC3, 0x00, 0x43, 0, 0},
+    {"00 - 01 = FF with C, S, D, H set and Z, V clear",
+     {0x22, 0x56}, 0x00, 0x01, Z | V, 0xFF, C | S | D | H, Z | V},
+    {"INC 7F = 80 with S, V set", {0x20, 0xE5}, 0x7F, 0, 0, 0x80, S | V, 0},
+    {"INC 7F = 80, INC touching no C, whatever it was", {0x5E, 0}, 0x7F, 0, C, 0x80, C | S | V, 0},
+    {"SRA 81 = C0 with C, S set", {0xD0, 0xE5}, 0x81, 0, 0, 0xC0, C | S, 0},
+    {"RL 40 = 80 with S, V set and C clear", {0x90, 0xE5}, 0x40, 0, C, 0x80, S | V, C},
+    {"DA of 3C (C, D, H clear) = 42", {0x40, 0xE5}, 0x3C, 0, Z | S, 0x42, 0, 0},
+    {"CP touches no D and H (likely slips)", {0xA2, 0x56}, 0x10, 0x01, D, 0x10, D, H},
+};
+
+static void check_example(const struct example *e)
+{
+    uint8_t machine[Z8_SAVED_LEN];
+    uint32_t cycles, ends0, ends1, answer;
+
+    z8_make_default(machine, Z8_SAVED_LEN);
+    machine[RP] = 0x10;
+    machine[0x15] = e->dst;
+    machine[0x16] = e->src;
+    machine[FLAGS] = e->flags_before;
+    machine[Z8_AT_PC + 1] = 0;
+    answer =
+        z8_step(machine, Z8_SAVED_LEN, e->bytes, 2, NULL, 0, 255, 255, 255, 255, &cycles, &ends0, &ends1);
+    check_number(0, answer, e->words);
+    check_number(e->result, machine[0x15], e->words);
+    check_number(e->flags_set, machine[FLAGS] & e->flags_set, e->words);
+    check_number(0, machine[FLAGS] & e->flags_clear, e->words);
+}
+
+/* DECW 0000 = FFFF; DJNZ; 8B FE at 0010. */
+static void check_words_and_jumps(void)
+{
+    static const uint8_t image[32] = {
+        0x80,          0x14,          /* 0000: DECW %14 */
+        0x5A,          0x20,          /* 0002: DJNZ R5,%24 */
+        [0x10] = 0x8B, [0x11] = 0xFE, /* 0010: JR %0010 */
+    };
+    uint8_t m[Z8_SAVED_LEN];
+    uint32_t cycles, ends0, ends1;
+
+#define STEP_FROM(address)                                                                            \
+    (m[Z8_AT_PC] = 0, m[Z8_AT_PC + 1] = (address),                                                    \
+     check_number(0,                                                                                  \
+                  z8_step(m, Z8_SAVED_LEN, image, sizeof image, NULL, 0, 255, 255, 255, 255, &cycles, \
+                          &ends0, &ends1),                                                            \
+                  "a step of 01's examples"))
+    z8_make_default(m, Z8_SAVED_LEN);
+    m[RP] = 0x10;
+    STEP_FROM(0);
+    check_number(0xFFFF, m[0x14] * 256ul + m[0x15], "DECW 0000 = FFFF");
+    m[0x15] = 1;
+    STEP_FROM(2);
+    check_number(0, m[0x15], "DJNZ on 1 leaves 0");
+    check_number(10, cycles, "DJNZ on 1: 10 cycles");
+    check_number(4, m[Z8_AT_PC + 1], "DJNZ on 1: no jump");
+    STEP_FROM(2);
+    check_number(0xFF, m[0x15], "DJNZ on 0 leaves FF");
+    check_number(12, cycles, "DJNZ on 0: 12 cycles");
+    check_number(0x24, m[Z8_AT_PC + 1], "DJNZ on 0: a jump");
+    STEP_FROM(0x10);
+    check_number(0x0010, m[Z8_AT_PC] * 256ul + m[Z8_AT_PC + 1], "bytes 8B FE at 0010 jump to 0010");
+#undef STEP_FROM
+}
+
+/* "IPR 08, IMR BF, IRQ 3F takes vector 000A", as a step of the entry cost. */
+static void check_vector(void)
+{
+    uint8_t image[12], m[Z8_SAVED_LEN];
+    uint32_t cycles, ends0, ends1;
+    unsigned k;
+
+    for (k = 0; k < sizeof image; k++) {
+        image[k] = (uint8_t)(0x40 + k);
+    }
+    z8_make(m, Z8_SAVED_LEN, 11, 37);
+    m[IPR] = 0x08;
+    m[IMR] = 0xBF;
+    m[IRQ] = 0x3F;
+    m[SPL] = 0x60;
+    m[FLAGS] = 0x77;
+    z8_step(m, Z8_SAVED_LEN, image, sizeof image, NULL, 0, 255, 255, 255, 255, &cycles, &ends0, &ends1);
+    check_number(0x4A4B, m[Z8_AT_PC] * 256ul + m[Z8_AT_PC + 1], "the word at 000A, high byte first");
+    check_number(37, cycles, "an interrupt grant is a step of the entry cost");
+    check_number(0x1F, m[IRQ], "it clears its request");
+    check_number(0x3F, m[IMR], "and bit 7 of IMR");
+    check_number(0x5D, m[SPL], "three bytes are pushed");
+    check_number(0x77, m[0x5D], "FLAGS lie below");
+    check_number(0x00, m[0x5E], "the address's high byte lower");
+    check_number(0x0C, m[0x5F], "and its low byte");
+}
+
+/* ---- 01's timers ---- */
+
+/* Both timers fresh from a load of P and N, repeating, T1 internal, counting. */
+static void fresh_timers(uint8_t *m, unsigned p, unsigned n, unsigned divider)
+{
+    z8_make_default(m, Z8_SAVED_LEN);
+    m[PRE0] = m[PRE1] = (uint8_t)(p * 4 + 3);
+    m[T0] = m[T1] = (uint8_t)n;
+    m[Z8_AT_T0_PRESCALER] = m[Z8_AT_T1_PRESCALER] = (uint8_t)p;
+    m[Z8_AT_T0_COUNTER] = m[Z8_AT_T1_COUNTER] = (uint8_t)n;
+    m[Z8_AT_DIVIDER] = (uint8_t)divider;
+    m[TMR] = 0x0A;
+}
+
+static void check_ends(unsigned p, unsigned n, unsigned divider, uint32_t span, uint32_t ends,
+                       const char *what)
+{
+    uint8_t m[Z8_SAVED_LEN];
+    uint32_t ends0 = UNTOUCHED, ends1 = UNTOUCHED;
+
+    fresh_timers(m, p, n, divider);
+    check_number(0, z8_span(m, Z8_SAVED_LEN, span, &ends0, &ends1), what);
+    check_number(ends, ends0, what);
+    check_number(ends, ends1, what);
+}
+
+static void check_spans(void)
+{
+    check_ends(3, 2, 0, 23, 0, "P 3, N 2, fresh load, divider 0: 23 cycles no end");
+    check_ends(3, 2, 0, 24, 1, "24 one");
+    check_ends(3, 2, 0, 47, 1, "47 one");
+    check_ends(3, 2, 0, 48, 2, "48 two");
+    check_ends(64, 256, 0, 65535, 0, "P 64, N 256: 65,535 none");
+    check_ends(64, 256, 0, 65536, 1, "65,536 one");
+    check_ends(1, 1, 0, 4294967295u, 1073741823u, "P 1, N 1, over the longest span: from divider 0");
+    check_ends(1, 1, 1, 4294967295u, 1073741824u, "P 1, N 1, over the longest span: from divider 1");
+    check_ends(1, 1, 0, 0, 0, "a span of 0");
+}
+
+/* "Cycles already gone: divider + 4 x ((P - prescaler) + P x (N - counter))". */
+static void check_cycles_gone(void)
+{
+    uint32_t gone, ends0, ends1;
+
+    for (gone = 0; gone < 65536; gone += 1 + gone / 97) {
+        uint8_t m[Z8_SAVED_LEN];
+        uint32_t counter, formula;
+
+        fresh_timers(m, 64, 256, 0);
+        z8_span(m, Z8_SAVED_LEN, gone, &ends0, &ends1);
+        counter = m[Z8_AT_T0_COUNTER] == 0 ? 256 : m[Z8_AT_T0_COUNTER];
+        formula = m[Z8_AT_DIVIDER] + 4 * ((64u - m[Z8_AT_T0_PRESCALER]) + 64 * (256 - counter));
+        check_number(gone, formula, "cycles already gone");
+        check_number(m[Z8_AT_T0_COUNTER], m[Z8_AT_T1_COUNTER], "T1 as T0");
+    }
+}
+
+/* Likely slips: "four 6-cycle instructions are six ticks", "Clearing the divider at a load". */
+static void check_ticks(void)
+{
+    static const uint8_t load[3] = {0xE6, 0xF1, 0x03}; /* LD TMR,#%03 */
+    uint8_t m[Z8_SAVED_LEN];
+    uint32_t cycles, ends0, ends1;
+    int k;
+
+    fresh_timers(m, 64, 256, 0);
+    for (k = 0; k < 4; k++) {
+        z8_step(m, Z8_SAVED_LEN, NULL, 0, NULL, 0, 255, 255, 255, 255, &cycles, &ends0, &ends1);
+        check_number(6, cycles, "NOP's cycles");
+    }
+    check_number(64 - 6, m[Z8_AT_T0_PRESCALER], "four 6-cycle instructions are six ticks");
+
+    fresh_timers(m, 64, 256, 3);
+    m[Z8_AT_PC + 1] = 0;
+    m[Z8_AT_T0_PRESCALER] = 5;
+    z8_step(m, Z8_SAVED_LEN, load, sizeof load, NULL, 0, 255, 255, 255, 255, &cycles, &ends0, &ends1);
+    check_number((3 + 10) % 4, m[Z8_AT_DIVIDER], "a load leaves the divider");
+    check_number(64 - (3 + 10) / 4, m[Z8_AT_T0_PRESCALER], "and its 10 cycles are ticks after it");
+    check_number(0x02, m[TMR], "a load bit reads back 0");
+}
+
+static void check_01s_examples(void)
+{
+    size_t k;
+
+    for (k = 0; k < sizeof examples / sizeof examples[0]; k++) {
+        check_example(&examples[k]);
+    }
+    check_words_and_jumps();
+    check_vector();
+    check_spans();
+    check_cycles_gone();
+    check_ticks();
+}
+
+/* ---- The header ---- */
+
+/* Each offset, against where the reference saves a value that is nowhere else. */
+static void check_offsets(void)
+{
+    struct ref_machine m;
+    uint8_t saved[Z8_SAVED_LEN];
+    int k;
+
+    check_number(REF_SAVED_LENGTH, Z8_SAVED_LEN, "Z8_SAVED_LEN");
+    ref_make(&m, 11, 63);
+    for (k = 0; k < 0x80; k++) {
+        m.file[k] = (uint8_t)(k + 0x80);
+    }
+    m.pc = 0x5152;
+    m.divider = 3;
+    m.prescaler0 = 41;
+    m.counter0 = 0x53;
+    m.prescaler1 = 42;
+    m.counter1 = 0x54;
+    m.port3 = 0x55;
+    m.tout = 1;
+    ref_save(&m, saved);
+    check_number(m.file[0x7F], saved[Z8_AT_REGISTERS + 0x7F], "Z8_AT_REGISTERS");
+    check_number(0x51, saved[Z8_AT_PC], "Z8_AT_PC");
+    check_number(0x52, saved[Z8_AT_PC + 1], "Z8_AT_PC, low byte");
+    check_number(3, saved[Z8_AT_DIVIDER], "Z8_AT_DIVIDER");
+    check_number(41, saved[Z8_AT_T0_PRESCALER], "Z8_AT_T0_PRESCALER");
+    check_number(0x53, saved[Z8_AT_T0_COUNTER], "Z8_AT_T0_COUNTER");
+    check_number(42, saved[Z8_AT_T1_PRESCALER], "Z8_AT_T1_PRESCALER");
+    check_number(0x54, saved[Z8_AT_T1_COUNTER], "Z8_AT_T1_COUNTER");
+    check_number(0x55, saved[Z8_AT_PORT3], "Z8_AT_PORT3");
+    check_number(1, saved[Z8_AT_T_OUT], "Z8_AT_T_OUT");
+    check_number(11, saved[Z8_AT_TYPE], "Z8_AT_TYPE");
+    check_number(63, saved[Z8_AT_ENTRY_COST], "Z8_AT_ENTRY_COST");
+    check_number(0, saved[Z8_AT_ZERO], "Z8_AT_ZERO");
+    check_number(Z8_SAVED_LEN - 1, Z8_AT_ZERO, "Z8_AT_ZERO is the last");
+}
+
+/* The header's limits, each at both its sides, against what the reference takes. */
+static void check_limits(void)
+{
+    struct ref_machine m;
+
+    check_number(0, (unsigned long)ref_make(&m, Z8_TYPE_Z8601, Z8_ENTRY_COST_LEAST), "least entry cost");
+    check_number(3, (unsigned long)ref_make(&m, Z8_TYPE_Z8601, Z8_ENTRY_COST_LEAST - 1), "less than that");
+    check_number(0, (unsigned long)ref_make(&m, Z8_TYPE_Z8611, Z8_ENTRY_COST_MOST), "most entry cost");
+    check_number(3, (unsigned long)ref_make(&m, Z8_TYPE_Z8611, Z8_ENTRY_COST_MOST + 1), "more than that");
+    check(Z8_DEFAULT_TYPE == 11 && Z8_DEFAULT_ENTRY_COST == 20, "01: type 11 and entry cost 20 unless others "
+                                                                "are named");
+    check(Z8_IMAGE_MOST == 65536 && Z8_DATA_MOST == 65536 && Z8_BUDGET_MOST == 1000000
+              && Z8_OVERRUN_MOST == 62,
+          "01: 65,536, 65,536, 1,000,000 and 62");
+    check(Z8_OK == 0 && Z8_REFUSED_IMAGE == 1 && Z8_REFUSED_DATA == 2 && Z8_REFUSED_MAKING == 3
+              && Z8_REFUSED_BUDGET == 4 && Z8_REFUSED_OPCODE == 5 && Z8_REFUSED_MACHINE == 6
+              && Z8_REFUSED_LENGTH == 7 && Z8_REFUSED_INSTRUCTION == 8,
+          "01's table of refusals");
+}
+
+static void check_answer_texts(void)
+{
+    static const uint32_t others[] = {9, 10, 256, 0x80000000u, 4294967295u};
+    const char *other = z8_answer_text(others[0]);
+    uint32_t i, j;
+
+    for (i = 0; i <= 8; i++) {
+        check(strlen(z8_answer_text(i)) > 0, "an answer in words");
+        check(strcmp(z8_answer_text(i), other) != 0, "an answer's words differ from those of no answer");
+        for (j = 0; j < i; j++) {
+            check(strcmp(z8_answer_text(i), z8_answer_text(j)) != 0, "two answers have different words");
+        }
+    }
+    for (i = 0; i < sizeof others / sizeof others[0]; i++) {
+        check(strcmp(z8_answer_text(others[i]), other) == 0, "all other numbers have one sentence");
+    }
+}
+
+int main(void)
+{
+    check_all_faults();
+    check_every_value_of_every_place();
+    check_random_bytes();
+    check_lengths_that_are_fine();
+    check_makings();
+    check_resets();
+    check_lengths_past_32_bits();
+    check_runs_stopped_by_an_opcode();
+    check_runs_against_steps();
+    check_longest_overrun();
+    check_budget_0();
+    check_interleaved();
+    check_01s_examples();
+    check_offsets();
+    check_limits();
+    check_answer_texts();
+    printf("calls: %lu checks, %lu failed\n", checks, failed);
+    return failed != 0;
+}

@@ -1,0 +1,963 @@
+/* A seeded comparison of libz8.a with the reference: every byte of machine and data memory, and every number.
+
+   Usage: compare SEED COUNT IMAGE...
+   COUNT is the number of drawn steps; the drawn runs, spans and checks go with it. The values of the
+   arithmetic, the operand bytes and the written programs are gone through whole, whatever COUNT. The images
+   are run from reset. */
+#include <stdio.h>
+#include <stdlib.h>
+#include <string.h>
+
+#include "../include/z8.h"
+#include "both.h"
+#include "draw.h"
+#include "programs.h"
+#include "reference/bytes.h"
+#include "reference/machine.h"
+#include "reference/step.h"
+#include "report.h"
+
+/* Register places, by 002. */
+enum { TMR = 0xF1, PRE1 = 0xF3, PRE0 = 0xF5, P01M = 0xF8, IPR = 0xF9, IRQ = 0xFA, IMR = 0xFB };
+enum { FLAGS = 0xFC, RP = 0xFD, SPH = 0xFE, SPL = 0xFF };
+
+static unsigned long seed;
+static unsigned long steps, checks, failed;
+
+/* After so many differences the rest tells no more. */
+#define FAILURES_TOLD 3ul
+
+static void note(int passed)
+{
+    checks++;
+    if (!passed) {
+        failed++;
+        if (failed >= FAILURES_TOLD) {
+            printf("compare: %lu checks, %lu failed, and stopped there\n", checks, failed);
+            exit(1);
+        }
+    }
+}
+
+/* ---- What happened, and how often ---- */
+
+enum kind {
+    GRANTS,
+    RESERVED_ORDERS,
+    REFUSALS_5,
+    EDGES,
+    EDGE_ENDS,
+    T0_ENDS,
+    T1_ENDS,
+    BOTH_END,
+    MANY_ENDS,
+    SINGLE_PASSES,
+    T_OUT_FLIPS,
+    GATE_HIGH,
+    GATE_LOW,
+    LOADS,
+    INTERNAL_STACK,
+    EXTERNAL_STACK,
+    STACK_ON_SPECIAL,
+    SPL_WRAPS,
+    SP_WRAPS,
+    DATA_STORES,
+    DATA_DROPS,
+    PAST_IMAGE,
+    PC_WRAPS,
+    EX_OPERANDS,
+    SPECIAL_OPERANDS,
+    HOLES,
+    DA_IN_NO_ROW,
+    JUMPS,
+    FLAGS_STORED,
+    RP_STORED,
+    NO_IMAGE,
+    NO_DATA,
+    KINDS
+};
+
+static const char *const kind_names[KINDS] = {
+    "grants",           "reserved orders",
+    "refusals 5",       "edges",
+    "edge ends",        "T0 ends",
+    "T1 ends",          "both end",
+    "many ends",        "single passes",
+    "T_OUT flips",      "gate high",
+    "gate low",         "TMR loads",
+    "internal stack",   "external stack",
+    "stack on special", "SPL wraps",
+    "SP wraps",         "data stores",
+    "data drops",       "fetches past image",
+    "PC wraps",         "Ex operands",
+    "special operands", "holes",
+    "DA in no row",     "jumps",
+    "FLAGS stored",     "RP stored",
+    "no image",         "no data",
+};
+
+static unsigned long happened[KINDS];
+
+static void saw(enum kind kind, int it_happened)
+{
+    happened[kind] += it_happened != 0;
+}
+
+static unsigned word_at(const uint8_t *bytes)
+{
+    return bytes[0] * 256u + bytes[1];
+}
+
+static unsigned pc_of(const struct given *g)
+{
+    return word_at(g->saved + Z8_AT_PC);
+}
+
+static unsigned opcode_of(const struct given *g)
+{
+    return ref_program(g->image, g->image_length, (uint16_t)pc_of(g));
+}
+
+/* Requests that stand when a grant is decided, less an edge's end of T1. 01: "falling edges on P32, P33, P31,
+   P30 latch requests 0, 1, 2, 3". */
+static unsigned requests_standing(const struct given *g)
+{
+    unsigned fell = g->saved[Z8_AT_PORT3] & ~g->pins[3] & 0x0Fu;
+
+    return g->saved[IRQ] | (fell >> 2 & 1) | (fell >> 2 & 2) | (fell << 1 & 4) | (fell << 3 & 8);
+}
+
+static int asks_for_grant(const struct given *g)
+{
+    return (g->saved[IMR] & 0x80) && (requests_standing(g) & g->saved[IMR] & 0x3F);
+}
+
+static int order_is_reserved(const struct given *g)
+{
+    unsigned order = g->saved[IPR] & 0x19u;
+
+    return order == 0 || order == 0x19;
+}
+
+static void see_interrupts(const struct given *g)
+{
+    saw(GRANTS, asks_for_grant(g) && !order_is_reserved(g));
+    saw(RESERVED_ORDERS, asks_for_grant(g) && order_is_reserved(g));
+}
+
+static void see_timers(const struct given *g, const struct outcome *after)
+{
+    unsigned fell = g->saved[Z8_AT_PORT3] & ~g->pins[3] & 0x0Fu;
+    unsigned source = (g->saved[PRE1] & 2) ? 0x40 : g->saved[TMR] & 0x30u;
+    int t1_counts = g->saved[TMR] & 8;
+
+    saw(EDGES, fell);
+    saw(EDGE_ENDS, (fell & 2) && source == 0 && t1_counts && g->saved[Z8_AT_T1_PRESCALER] == 1
+                       && g->saved[Z8_AT_T1_COUNTER] == 1);
+    saw(GATE_HIGH, source == 0x10 && t1_counts && (g->pins[3] & 2));
+    saw(GATE_LOW, source == 0x10 && t1_counts && !(g->pins[3] & 2));
+    saw(T0_ENDS, after->ends0);
+    saw(T1_ENDS, after->ends1);
+    saw(BOTH_END, after->ends0 && after->ends1);
+    saw(MANY_ENDS, after->ends0 > 1 || after->ends1 > 1);
+    saw(SINGLE_PASSES, (after->ends0 && !(g->saved[PRE0] & 1)) || (after->ends1 && !(g->saved[PRE1] & 1)));
+    saw(T_OUT_FLIPS, after->saved[Z8_AT_T_OUT] != g->saved[Z8_AT_T_OUT]);
+}
+
+static int is_stack_instruction(unsigned opcode)
+{
+    return opcode == 0x50 || opcode == 0x51 || opcode == 0x70 || opcode == 0x71 || opcode == 0xAF
+           || opcode == 0xBF || opcode == 0xD4 || opcode == 0xD6;
+}
+
+static int uses_stack(const struct given *g)
+{
+    return is_stack_instruction(opcode_of(g)) || (asks_for_grant(g) && !order_is_reserved(g));
+}
+
+static int stack_is_internal(const struct given *g)
+{
+    return (g->saved[P01M] & 4) != 0;
+}
+
+static void see_stack(const struct given *g, const struct outcome *after)
+{
+    int low_moved_far = abs(after->saved[SPL] - g->saved[SPL]) > 128;
+    int high_moved_far = abs(after->saved[SPH] - g->saved[SPH]) > 128;
+
+    if (!uses_stack(g)) {
+        return;
+    }
+    saw(INTERNAL_STACK, stack_is_internal(g));
+    saw(EXTERNAL_STACK, !stack_is_internal(g));
+    saw(STACK_ON_SPECIAL, stack_is_internal(g) && (g->saved[SPL] < 4 || g->saved[SPL] >= 0x80));
+    saw(SPL_WRAPS, stack_is_internal(g) && low_moved_far);
+    saw(SP_WRAPS, !stack_is_internal(g) && high_moved_far);
+}
+
+static int writes_data_by_instruction(unsigned opcode)
+{
+    return opcode == 0x92 || opcode == 0x93;
+}
+
+/* Where by the papers a store to data memory can happen: LDE, LDEI, and the external stack. */
+static int can_store_data(const struct given *g)
+{
+    return writes_data_by_instruction(opcode_of(g))
+           || (!stack_is_internal(g) && (is_stack_instruction(opcode_of(g)) || (g->saved[IMR] & 0x80)));
+}
+
+static void see_data(const struct given *g, const struct outcome *after)
+{
+    int stored = can_store_data(g) && g->data_length > 0 && memcmp(g->data, after->data, g->data_length) != 0;
+
+    saw(DATA_STORES, stored);
+    saw(DATA_DROPS, writes_data_by_instruction(opcode_of(g)) && !asks_for_grant(g) && !stored);
+    saw(NO_IMAGE, g->image == NULL);
+    saw(NO_DATA, g->data_length == 0);
+}
+
+static void see_instruction(const struct given *g, const struct outcome *after)
+{
+    unsigned pc = pc_of(g), opcode = opcode_of(g);
+    unsigned length = (unsigned)ref_length((int)opcode);
+    unsigned operand = ref_program(g->image, g->image_length, (uint16_t)(pc + 1));
+
+    if (asks_for_grant(g)) {
+        return;
+    }
+    saw(REFUSALS_5, after->answer == 5);
+    saw(PAST_IMAGE, pc + length > g->image_length);
+    saw(PC_WRAPS, pc + length > 0xFFFF);
+    saw(EX_OPERANDS, length > 1 && operand / 16 == 0xE);
+    saw(SPECIAL_OPERANDS, length > 1 && (operand < 4 || operand > 0xF0));
+    saw(HOLES, length > 1 && operand >= 0x80 && operand <= 0xF0 && operand / 16 != 0xE);
+    saw(DA_IN_NO_ROW, opcode == 0x40 && operand > 3 && operand < 0x80
+                          && g->saved[operand] == after->saved[operand] && g->saved[operand] % 16 > 9);
+    saw(LOADS,
+        opcode == 0xE6 && operand == TMR && (ref_program(g->image, g->image_length, (uint16_t)(pc + 2)) & 5));
+    saw(JUMPS, after->answer == 0 && word_at(after->saved + Z8_AT_PC) != (pc + length) % 65536);
+    saw(FLAGS_STORED, opcode != 0xBF && (g->saved[FLAGS] & 3) != (after->saved[FLAGS] & 3));
+    saw(RP_STORED, g->saved[RP] != after->saved[RP]);
+}
+
+static void see_step(const struct given *g, const struct outcome *after)
+{
+    see_interrupts(g);
+    see_timers(g, after);
+    see_stack(g, after);
+    see_data(g, after);
+    see_instruction(g, after);
+}
+
+#define COUNT_WHERE_ALL_HAPPENS 100000ul
+
+static void tell_what_happened(unsigned long count)
+{
+    int kind;
+
+    printf("compare: of the drawn steps:");
+    for (kind = 0; kind < KINDS; kind++) {
+        printf("%s %lu %s", kind == 0 ? "" : ",", happened[kind], kind_names[kind]);
+    }
+    printf("\n");
+    for (kind = 0; kind < KINDS; kind++) {
+        if (count >= COUNT_WHERE_ALL_HAPPENS) {
+            if (happened[kind] == 0) {
+                printf("NEVER HAPPENED: %s\n", kind_names[kind]);
+            }
+            note(happened[kind] != 0);
+        }
+    }
+}
+
+/* ---- Comparing ---- */
+
+/* As both data memories are before a case. */
+static struct memory first_memory;
+
+/* Whole memories take their time to compare. A step that by the papers can't store there is compared without
+   them, but a wrong store stays where it is, and every so often they are compared whole, guards too. */
+static void compare_whole_memories(void)
+{
+    size_t at = 0;
+    const uint8_t *found = (const uint8_t *)&found_memory, *expected = (const uint8_t *)&expected_memory;
+    int same = memcmp(found, expected, sizeof found_memory) == 0;
+
+    if (!same) {
+        while (found[at] == expected[at]) {
+            at++;
+        }
+        printf("DIFFERENCE: data memory at %ld, in one of the last cases: expected %02X, found %02X\n",
+               (long)at - (long)GUARD, expected[at], found[at]);
+    }
+    note(same);
+}
+
+static void restore_memories(void)
+{
+    if (memcmp(&expected_memory, &first_memory, sizeof first_memory) != 0) {
+        expected_memory = first_memory;
+        found_memory = first_memory;
+    }
+}
+
+#define CASES_BETWEEN_WHOLE_MEMORIES 64u
+
+static void compare_step(struct given *g, struct outcome *expected)
+{
+    int whole = can_store_data(g);
+
+    note(agree(g, step_of_reference, step_of_library, whole, expected));
+    steps++;
+    if (steps % CASES_BETWEEN_WHOLE_MEMORIES == 0) {
+        compare_whole_memories();
+    }
+}
+
+/* ---- Drawn steps ---- */
+
+static uint8_t image[MEMORY];
+
+static void fill_memories(void)
+{
+    struct dice d;
+    size_t at;
+
+    dice_for_case(&d, seed, 0);
+    memset(&first_memory, GUARD_BYTE, sizeof first_memory);
+    for (at = 0; at < MEMORY; at++) {
+        first_memory.bytes[at] = any_byte(&d);
+        image[at] = any_byte(&d);
+    }
+    expected_memory = first_memory;
+    found_memory = first_memory;
+}
+
+static uint32_t draw_data_length(struct dice *d)
+{
+    static const uint32_t lengths[] = {0,    0,    1,    100,  2047,  2048,  2049,  2050,
+                                       4095, 4096, 4097, 4098, 65535, 65536, 65536, 65536};
+
+    return one_in(d, 3) ? below(d, 65537) : one_of(d, lengths, sizeof lengths / sizeof lengths[0]);
+}
+
+/* Mostly a whole image; else none, a short one, or one that ends at or within the instruction. */
+static uint32_t draw_image_length(struct dice *d, unsigned pc)
+{
+    switch (below(d, 16)) {
+    case 0:
+        return 0;
+    case 1:
+        return below(d, 16);
+    case 2:
+        return below(d, 65537);
+    case 3:
+    case 4:
+        pc += below(d, 4);
+        return pc > MEMORY ? MEMORY : pc;
+    default:
+        return MEMORY;
+    }
+}
+
+/* Opcodes that meet more than one rule of 01 at once, and so are drawn more often. */
+static const uint32_t weighty[] = {0x50, 0x51, 0x70, 0x71, 0xAF, 0xBF, 0xD4, 0xD6, 0x82, 0x83,
+                                   0x92, 0x93, 0xC2, 0xC3, 0xD3, 0x40, 0x41, 0x80, 0x81, 0xA0,
+                                   0xA1, 0xC7, 0xD7, 0xE6, 0xE7, 0x46, 0x56, 0x31, 0x30};
+
+static void draw_instruction(struct dice *d, unsigned long number, uint8_t bytes[3])
+{
+    bytes[0] = (uint8_t)number;
+    if (one_in(d, 4)) {
+        bytes[0] = (uint8_t)one_of(d, weighty, sizeof weighty / sizeof weighty[0]);
+    }
+    bytes[1] = odd_address(d);
+    bytes[2] = one_in(d, 2) ? any_byte(d) : odd_address(d);
+    if (one_in(d, 32)) {
+        bytes[0] = 0xE6; /* LD TMR,#.. */
+        bytes[1] = TMR;
+    }
+    if (one_in(d, 64)) {
+        bytes[0] = 0xE6; /* LD to T0, T1, PRE0, PRE1 */
+        bytes[1] = (uint8_t)(0xF2 + below(d, 4));
+    }
+}
+
+static void draw_pins(struct dice *d, struct given *g)
+{
+    int port;
+
+    for (port = 0; port < 4; port++) {
+        g->pins[port] = any_byte(d);
+    }
+    if (one_in(d, 4)) {
+        g->pins[3] = g->saved[Z8_AT_PORT3]; /* no edge at all */
+    }
+    if (one_in(d, 4)) {
+        g->saved[Z8_AT_PORT3] |= 2; /* an edge of P31 */
+        g->pins[3] &= 0xFD;
+    }
+}
+
+static void draw_surroundings(struct dice *d, struct given *g)
+{
+    struct lean lean;
+
+    memset(g, 0, sizeof *g);
+    lean.requests = one_in(d, 4);
+    lean.data_length = draw_data_length(d);
+    lean.image_length = MEMORY;
+    draw_machine(d, &lean, g->saved);
+    g->seed = seed;
+    g->data_length = lean.data_length;
+    g->data = lean.data_length == 0 && one_in(d, 2) ? NULL : first_memory.bytes;
+    g->image_length = draw_image_length(d, pc_of(g));
+    g->image = g->image_length == 0 && one_in(d, 2) ? NULL : image;
+    draw_pins(d, g);
+}
+
+/* Puts instruction bytes at the program counter, and back again. */
+static void swap_program_bytes(unsigned pc, uint8_t bytes[3])
+{
+    unsigned k;
+
+    for (k = 0; k < 3; k++) {
+        uint8_t old = image[(pc + k) % MEMORY];
+
+        image[(pc + k) % MEMORY] = bytes[k];
+        bytes[k] = old;
+    }
+}
+
+static void compare_instruction(struct given *g, const uint8_t bytes[3])
+{
+    struct outcome expected;
+    uint8_t swapped[3];
+
+    memcpy(swapped, bytes, 3);
+    swap_program_bytes(pc_of(g), swapped);
+    compare_step(g, &expected);
+    see_step(g, &expected);
+    if (can_store_data(g)) {
+        restore_memories();
+    }
+    swap_program_bytes(pc_of(g), swapped);
+}
+
+static void compare_drawn_steps(unsigned long count)
+{
+    unsigned long number;
+
+    for (number = 0; number < count; number++) {
+        struct given g;
+        struct dice d;
+        uint8_t bytes[3];
+
+        dice_for_case(&d, seed, 1000 + number);
+        draw_surroundings(&d, &g);
+        g.call = "z8_step, a drawn step";
+        g.number = number;
+        draw_instruction(&d, number, bytes);
+        compare_instruction(&g, bytes);
+    }
+    compare_whole_memories();
+}
+
+/* Every first and every second operand byte with every opcode. */
+static void compare_operand_bytes(void)
+{
+    unsigned long number;
+
+    for (number = 0; number < 2 * 256 * 256; number++) {
+        struct given g;
+        struct dice d;
+        uint8_t bytes[3];
+
+        dice_for_case(&d, seed + 1, number);
+        draw_surroundings(&d, &g);
+        g.call = "z8_step, an operand byte";
+        g.number = number;
+        g.saved[IMR] &= 0x7F; /* so that the instruction is executed */
+        if (g.image_length < MEMORY) {
+            g.image = image;
+            g.image_length = MEMORY;
+        }
+        draw_instruction(&d, number, bytes);
+        bytes[0] = (uint8_t)number;
+        bytes[number < 65536 ? 1 : 2] = (uint8_t)(number / 256);
+        compare_instruction(&g, bytes);
+    }
+    compare_whole_memories();
+}
+
+/* ---- The arithmetic's values, each through one step ---- */
+
+/* A machine with plain registers, at 000C, without timers and interrupts; working group 10. */
+static void plain_machine(struct given *g, const char *call)
+{
+    struct ref_machine m;
+
+    memset(g, 0, sizeof *g);
+    ref_make(&m, 11, 20);
+    ref_save(&m, g->saved);
+    g->saved[RP] = 0x10;
+    g->call = call;
+    g->seed = seed;
+    memset(g->pins, 0xFF, 4);
+}
+
+static void compare_values(struct given *g, uint8_t flags)
+{
+    struct outcome expected;
+
+    g->saved[FLAGS] = flags;
+    compare_step(g, &expected);
+    g->number++;
+}
+
+/* ADD ADC SUB SBC OR AND TCM TM CP XOR r5,r6: all values, carry in, the other flags set or clear in turn. */
+static void compare_two_operand_values(void)
+{
+    static const uint8_t opcodes[] = {0x02, 0x12, 0x22, 0x32, 0x42, 0x52, 0x62, 0x72, 0xA2, 0xB2};
+    uint8_t program[14] = {0};
+    struct given g;
+    unsigned op, values, carry;
+
+    plain_machine(&g, "z8_step, two-operand values");
+    g.image = program;
+    g.image_length = sizeof program;
+    program[13] = 0x56;
+    for (op = 0; op < sizeof opcodes; op++) {
+        program[12] = opcodes[op];
+        for (values = 0; values < 65536; values++) {
+            g.saved[0x15] = (uint8_t)(values / 256);
+            g.saved[0x16] = (uint8_t)values;
+            for (carry = 0; carry < 2; carry++) {
+                compare_values(&g,
+                               (uint8_t)((carry ? 0x80 : 0) | ((values + op + values / 256) % 2 ? 0x7F : 0)));
+            }
+        }
+    }
+}
+
+/* DEC RLC INC DA COM RL CLR RRC SRA RR SWAP %15: all values with all of C Z S V D H, F2 and F1 in turn. */
+static void compare_one_operand_values(void)
+{
+    static const uint8_t opcodes[] = {0x00, 0x10, 0x20, 0x40, 0x60, 0x90, 0xB0, 0xC0, 0xD0, 0xE0, 0xF0};
+    uint8_t program[14] = {0};
+    struct given g;
+    unsigned op, value, flags;
+
+    plain_machine(&g, "z8_step, one-operand values");
+    g.image = program;
+    g.image_length = sizeof program;
+    program[13] = 0x15;
+    for (op = 0; op < sizeof opcodes; op++) {
+        program[12] = opcodes[op];
+        for (value = 0; value < 256; value++) {
+            for (flags = 0; flags < 64; flags++) {
+                g.saved[0x15] = (uint8_t)value;
+                compare_values(&g, (uint8_t)(flags * 4 + (value + flags) % 4));
+            }
+        }
+    }
+}
+
+/* RCF SCF CCF, and JP cc and JR cc for the sixteen conditions: all of FLAGS. */
+static void compare_flag_values(void)
+{
+    uint8_t program[15] = {0};
+    struct given g;
+    unsigned opcode, flags;
+
+    plain_machine(&g, "z8_step, all of FLAGS");
+    g.image = program;
+    g.image_length = sizeof program;
+    program[13] = 0x8F;
+    program[14] = 0x21;
+    for (opcode = 0; opcode < 256; opcode++) {
+        int takes_flags =
+            opcode == 0xCF || opcode == 0xDF || opcode == 0xEF || opcode % 16 == 0xB || opcode % 16 == 0xD;
+
+        program[12] = (uint8_t)opcode;
+        for (flags = 0; takes_flags && flags < 256; flags++) {
+            compare_values(&g, (uint8_t)flags);
+        }
+    }
+}
+
+/* DECW and INCW %14: all words. DJNZ r5 and the displacements: all bytes of both. */
+static void compare_word_values(void)
+{
+    uint8_t program[14] = {0};
+    struct given g;
+    unsigned up, word;
+
+    plain_machine(&g, "z8_step, words");
+    g.image = program;
+    g.image_length = sizeof program;
+    program[13] = 0x14;
+    for (up = 0; up < 2; up++) {
+        program[12] = up ? 0xA0 : 0x80;
+        for (word = 0; word < 65536; word++) {
+            g.saved[0x14] = (uint8_t)(word / 256);
+            g.saved[0x15] = (uint8_t)word;
+            compare_values(&g, (uint8_t)((word + word / 256) % 2 ? 0xFF : 0x00));
+        }
+    }
+    program[12] = 0x5A;
+    for (word = 0; word < 65536; word++) {
+        program[13] = (uint8_t)(word / 256);
+        g.saved[0x15] = (uint8_t)word;
+        compare_values(&g, 0);
+    }
+}
+
+/* ---- Interrupts: every IPR with every set of requests ---- */
+
+static void compare_priorities(void)
+{
+    uint8_t program[13];
+    struct given g;
+    unsigned ipr, requests;
+
+    plain_machine(&g, "z8_step, every IPR");
+    for (requests = 0; requests < sizeof program; requests++) {
+        program[requests] = (uint8_t)(0xA0 + requests); /* six vectors that differ, and an EI */
+    }
+    program[12] = 0x9F;
+    g.image = program;
+    g.image_length = sizeof program;
+    g.saved[SPL] = 0x80;
+    for (ipr = 0; ipr < 256; ipr++) {
+        g.saved[IPR] = (uint8_t)ipr;
+        for (requests = 0; requests < 64; requests++) {
+            g.saved[IRQ] = (uint8_t)requests;
+            g.saved[IMR] = 0xBF;
+            compare_values(&g, 0x55);
+            g.saved[IRQ] = 0x3F;
+            g.saved[IMR] = (uint8_t)(0x80 + requests);
+            compare_values(&g, 0xAA);
+        }
+    }
+}
+
+/* ---- Runs ---- */
+
+static uint32_t draw_budget(struct dice *d)
+{
+    static const uint32_t edges[] = {0, 1, 5, 6, 7, 12, 13, 20, 59, 60, 61, 62, 63, 64};
+
+    return one_in(d, 2) ? one_of(d, edges, sizeof edges / sizeof edges[0]) : below(d, 1500);
+}
+
+/* Random bytes, of which those that are undefined opcodes mostly give way to others, so that runs last. */
+static void draw_program(struct dice *d, uint8_t *program, size_t length)
+{
+    size_t at;
+
+    for (at = 0; at < length; at++) {
+        program[at] = any_byte(d);
+        if (!ref_defined(program[at]) && !one_in(d, 8)) {
+            program[at] = (uint8_t)(program[at] & 0x7F & ~0x0F);
+        }
+    }
+}
+
+static void compare_drawn_runs(unsigned long count)
+{
+    static uint8_t program[1024];
+    unsigned long number, slice;
+
+    for (number = 0; number < count; number++) {
+        struct outcome expected;
+        struct given g;
+        struct dice d;
+
+        dice_for_case(&d, seed + 2, number);
+        draw_surroundings(&d, &g);
+        g.call = "z8_run, a drawn program";
+        g.number = number;
+        g.image = program;
+        g.image_length = 16 + below(&d, 1000);
+        draw_program(&d, program, g.image_length);
+        if (!one_in(&d, 8)) {
+            unsigned pc = below(&d, (uint32_t)g.image_length);
+
+            g.saved[Z8_AT_PC] = (uint8_t)(pc / 256);
+            g.saved[Z8_AT_PC + 1] = (uint8_t)pc;
+        }
+        for (slice = 0; slice < 4; slice++) {
+            g.amount = draw_budget(&d);
+            draw_pins(&d, &g);
+            note(agree(&g, run_of_reference, run_of_library, 1, &expected));
+            memcpy(g.saved, expected.saved, Z8_SAVED_LEN);
+        }
+        restore_memories();
+    }
+}
+
+/* 01, edges to run: "budget 1,000,000 and 1,000,001". */
+static void compare_budgets_at_the_limit(void)
+{
+    static const uint8_t program[14] = {[12] = 0x8B, 0xFE}; /* JR to itself */
+    static const uint32_t budgets[] = {999999, 1000000, 1000001, 4294967295u};
+    struct outcome expected;
+    struct given g;
+    size_t k;
+
+    for (k = 0; k < sizeof budgets / sizeof budgets[0]; k++) {
+        plain_machine(&g, "z8_run, a budget at the limit");
+        g.number = k;
+        g.image = program;
+        g.image_length = sizeof program;
+        g.amount = budgets[k];
+        note(agree(&g, run_of_reference, run_of_library, 0, &expected));
+    }
+}
+
+/* A program from reset, in slices, with pins that change between them. */
+static void compare_program(const char *name, unsigned long number, const uint8_t *program, size_t length,
+                            int has_to_go_on)
+{
+    uint32_t spent = 0, most = 1000000;
+    struct outcome expected;
+    struct given g;
+    struct dice d;
+
+    dice_for_case(&d, seed + 3, number);
+    plain_machine(&g, name);
+    g.saved[RP] = 0;
+    g.number = number;
+    g.image = program;
+    g.image_length = length;
+    g.data = first_memory.bytes;
+    g.data_length = number % 2 ? MEMORY : 8192;
+    while (spent < most) {
+        g.amount = one_in(&d, 16) ? 100000 : draw_budget(&d) * (1 + below(&d, 5));
+        draw_pins(&d, &g);
+        note(agree(&g, run_of_reference, run_of_library, 1, &expected));
+        memcpy(g.saved, expected.saved, Z8_SAVED_LEN);
+        spent += expected.cycles + 1;
+        if (expected.answer != 0) {
+            if (has_to_go_on) {
+                printf("%s: stopped by %lu, so it isn't the program that it should be\n", name,
+                       (unsigned long)expected.answer);
+            }
+            note(!has_to_go_on);
+            break;
+        }
+    }
+    expected_memory = first_memory;
+    found_memory = first_memory;
+}
+
+static void compare_written_programs(void)
+{
+    uint8_t bytes[PROGRAM_SIZE];
+    size_t which;
+
+    for (which = 0; which < PROGRAMS; which++) {
+        const char *name = written_program(which, bytes);
+
+        compare_program(name, which, bytes, sizeof bytes, 1);
+    }
+}
+
+static void compare_image_file(const char *path, unsigned long number)
+{
+    static uint8_t bytes[MEMORY];
+    FILE *file = fopen(path, "rb");
+    size_t length;
+
+    if (file == NULL) {
+        printf("compare: no image %s\n", path);
+        note(0);
+        return;
+    }
+    length = fread(bytes, 1, sizeof bytes, file);
+    fclose(file);
+    note(length > 0);
+    compare_program(path, 100 + number, bytes, length, 1);
+}
+
+/* ---- Spans ---- */
+
+static void compare_spans(unsigned long count, uint32_t longest, const char *call)
+{
+    struct outcome expected;
+    unsigned long number;
+
+    for (number = 0; number < count; number++) {
+        struct given g;
+        struct dice d;
+
+        dice_for_case(&d, seed + 4 + longest, number);
+        draw_surroundings(&d, &g);
+        g.call = call;
+        g.number = number;
+        g.amount = below(&d, 1 + (one_in(&d, 4) ? 64 : longest));
+        note(agree(&g, span_of_reference, span_of_library, 0, &expected));
+    }
+}
+
+/* A long span against itself in two parts, of which the first or the second may be short enough for the
+   reference: 01 has the span's cycles in turn, so span(a) and then span(b) is span(a + b). */
+static void compare_composed_spans(unsigned long count)
+{
+    unsigned long number;
+
+    for (number = 0; number < count; number++) {
+        struct outcome whole, part, rest;
+        struct given g;
+        struct dice d;
+        uint32_t total;
+
+        dice_for_case(&d, seed + 5, number);
+        draw_surroundings(&d, &g);
+        g.call = "z8_span, in two parts (expected) and in one (found)";
+        g.number = number;
+        total = one_in(&d, 4) ? 4294967295u : (uint32_t)throw64(&d);
+        g.amount = total;
+        span_of_library(&g, &whole);
+        g.amount = one_in(&d, 2) ? below(&d, 1000) : (uint32_t)(throw64(&d) % ((uint64_t)total + 1));
+        g.amount = g.amount > total ? total : g.amount;
+        if (g.amount < 1000) {
+            span_of_reference(&g, &part);
+        } else {
+            span_of_library(&g, &part);
+        }
+        {
+            struct given second = g;
+
+            memcpy(second.saved, part.saved, Z8_SAVED_LEN);
+            second.amount = total - g.amount;
+            span_of_library(&second, &rest);
+        }
+        rest.ends0 += part.ends0;
+        rest.ends1 += part.ends1;
+        note(part.answer == 0);
+        note(same_outcome(&g, &rest, &whole));
+    }
+}
+
+/* ---- Checking, making, resetting, decoding, encoding ---- */
+
+/* Legal machines, and such with one or two bytes of any value. */
+static void draw_checked_machine(struct dice *d, struct given *g, unsigned long number)
+{
+    unsigned changes;
+
+    draw_surroundings(d, g);
+    g->number = number;
+    for (changes = below(d, 3); changes > 0; changes--) {
+        g->saved[one_in(d, 2) ? below(d, Z8_SAVED_LEN) : 0xF0 + below(d, 28)] = any_byte(d);
+    }
+}
+
+static void compare_checks_and_resets(unsigned long count)
+{
+    struct outcome expected;
+    unsigned long number;
+
+    for (number = 0; number < count; number++) {
+        struct given g;
+        struct dice d;
+
+        dice_for_case(&d, seed + 6, number);
+        draw_checked_machine(&d, &g, number);
+        g.call = "z8_check";
+        note(agree(&g, check_of_reference, check_of_library, 0, &expected));
+        g.call = "z8_reset";
+        note(agree(&g, reset_of_reference, reset_of_library, 0, &expected));
+    }
+}
+
+static void compare_makings(void)
+{
+    struct outcome expected;
+    struct given g;
+    struct dice d;
+    unsigned type, cost;
+
+    dice_for_case(&d, seed + 8, 0);
+    draw_surroundings(&d, &g);
+    memset(g.saved, 0xEE, Z8_SAVED_LEN); /* no legal machine: making doesn't ask what was there */
+    g.call = "z8_make, amount being the type and 1000 x the entry cost";
+    for (type = 0; type < 300; type++) {
+        for (cost = 0; cost<300; cost += type> 12 ? 20 : 1) {
+            g.amount = type + 1000 * cost;
+            note(agree(&g, make_of_reference, make_of_library, 0, &expected));
+        }
+    }
+    /* 01: "type 11 and entry cost 20 unless others are named". */
+    g.call = "z8_make_default";
+    g.amount = 11 + 1000 * 20;
+    note(agree(&g, make_of_reference, make_default_of_library, 0, &expected));
+}
+
+static void compare_codes(void)
+{
+    unsigned opcode, operand;
+    struct dice d;
+
+    dice_for_case(&d, seed + 9, 0);
+    for (opcode = 0; opcode < 256; opcode++) {
+        for (operand = 0; operand < 256; operand++) {
+            uint8_t program[3];
+
+            note(encodings_agree((uint8_t)opcode, (uint8_t)operand, 0));
+            note(encodings_agree((uint8_t)opcode, 0, (uint8_t)operand));
+            note(encodings_agree((uint8_t)opcode, (uint8_t)operand, any_byte(&d)));
+            program[0] = (uint8_t)opcode;
+            program[1] = (uint8_t)operand;
+            program[2] = any_byte(&d);
+            note(decodings_agree(program, below(&d, 4), (uint16_t)below(&d, 2)));
+            note(decodings_agree(program, 3, 0));
+        }
+    }
+    for (operand = 0; operand < 65536; operand++) {
+        note(decodings_agree(image, MEMORY, (uint16_t)operand));
+    }
+    note(decodings_agree(NULL, 0, 0));
+    note(decodings_agree(NULL, 0, 0xFFFF));
+}
+
+int main(int argc, char **argv)
+{
+    unsigned long count;
+    int k;
+
+    if (argc < 4) {
+        printf("usage: compare SEED COUNT IMAGE...\n");
+        return 2;
+    }
+    seed = strtoul(argv[1], NULL, 10);
+    count = strtoul(argv[2], NULL, 10);
+    fill_memories();
+
+    compare_drawn_steps(count);
+    compare_operand_bytes();
+    compare_two_operand_values();
+    compare_one_operand_values();
+    compare_flag_values();
+    compare_word_values();
+    compare_priorities();
+    compare_drawn_runs(1 + count / 20);
+    compare_budgets_at_the_limit();
+    compare_written_programs();
+    for (k = 3; k < argc; k++) {
+        compare_image_file(argv[k], (unsigned long)k);
+    }
+    compare_spans(1 + count / 10, 2000, "z8_span, short");
+    compare_spans(1 + count / 10000, 3000000, "z8_span, long");
+    compare_composed_spans(1 + count / 10);
+    compare_checks_and_resets(1 + count / 4);
+    compare_makings();
+    compare_codes();
+
+    tell_what_happened(count);
+    printf("compare: seed %lu, %lu steps, %lu checks, %lu failed\n", seed, steps, checks, failed);
+    return failed != 0;
+}

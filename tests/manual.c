@@ -1,0 +1,918 @@
+/* The worked examples of the 1983 manual (source document 004), chapters 3, 4, 5, 10 and 11, each run by
+   z8_step and by the reference. The numbers are the manual's. What a page leaves open (flags that it doesn't
+   name, the type) is run both ways.
+
+   Read from the text of 004, whose reading has faults of its own: O for 0, D for 0, @ as O, G or e. Where
+   only the sign is spoilt ("ADC SUM, OR10" for "ADC SUM,@R10") the example counts as readable and stands in
+   the first list. Where a number is spoilt, or the page contradicts itself or a HOUSE rule of 01, it stands
+   in the second list with what is wrong.
+
+   What can't be read: TCM's page, example and all, is lost; so are the drawings of chapters 3 and 4 (Figures
+   3-1 to 3-8, 4-1 to 4-8), which hold those chapters' examples, and the figures of 10 and 11. IRET, NOP, RCF
+   and SCF have no example. "AND R, MASK performs a bit clear operation" (3.2) has no numbers. */
+#include <stdio.h>
+#include <string.h>
+
+#include "../include/z8.h"
+#include "reference/machine.h"
+#include "reference/step.h"
+
+enum { TMR = 0xF1, T1 = 0xF2, PRE1 = 0xF3, T0 = 0xF4, PRE0 = 0xF5, P01M = 0xF8, IPR = 0xF9 };
+enum { IRQ = 0xFA, IMR = 0xFB, FLAGS = 0xFC, RP = 0xFD };
+
+enum { C = 0x80, Z = 0x40, S = 0x20, V = 0x10, D = 0x08, H = 0x04 };
+
+#define MEMORY 65536u
+
+static unsigned long checks, failed;
+
+static int check(unsigned long expected, unsigned long found, const char *who, const char *where,
+                 const char *what)
+{
+    checks++;
+    if (expected != found) {
+        failed++;
+        printf("FAILED (%s): %s: %s: the manual has %lu (%lX), found %lu (%lX)\n", who, where, what, expected,
+               expected, found, found);
+    }
+    return expected == found;
+}
+
+/* ---- A machine in the hands of the library or of the reference ---- */
+
+static uint8_t saved[Z8_SAVED_LEN], image[MEMORY], data[MEMORY];
+static uint32_t last_cycles, all_ends0, all_ends1;
+
+typedef uint32_t stepper(uint8_t pins3);
+
+static uint32_t step_of_library(uint8_t pins3)
+{
+    uint32_t ends0, ends1, answer;
+
+    answer = z8_step(saved, Z8_SAVED_LEN, image, MEMORY, data, MEMORY, 0xFF, 0xFF, 0xFF, pins3, &last_cycles,
+                     &ends0, &ends1);
+    if (answer == 0) {
+        all_ends0 += ends0;
+        all_ends1 += ends1;
+    }
+    return answer;
+}
+
+static uint32_t step_of_reference(uint8_t pins3)
+{
+    struct ref_pins pins = {{0xFF, 0xFF, 0xFF, 0}};
+    struct ref_machine m;
+    uint32_t ends0, ends1, answer;
+
+    pins.port[3] = pins3;
+    ref_load(&m, saved);
+    answer = (uint32_t)ref_step(&m, &pins, image, MEMORY, data, MEMORY, &last_cycles, &ends0, &ends1);
+    ref_save(&m, saved);
+    if (answer == 0) {
+        all_ends0 += ends0;
+        all_ends1 += ends1;
+    }
+    return answer;
+}
+
+struct engine {
+    const char *name;
+    stepper *step;
+};
+
+static const struct engine engines[2] = {{"z8_step", step_of_library}, {"the reference", step_of_reference}};
+
+/* A new machine with working registers 16 to 31, nothing but NOPs in program memory. */
+static void new_machine(unsigned type)
+{
+    z8_make(saved, Z8_SAVED_LEN, type, 20);
+    saved[RP] = 0x10;
+    memset(image, 0xFF, MEMORY);
+    memset(data, 0x99, MEMORY);
+    all_ends0 = all_ends1 = 0;
+}
+
+static void set_pc(unsigned pc)
+{
+    saved[Z8_AT_PC] = (uint8_t)(pc / 256);
+    saved[Z8_AT_PC + 1] = (uint8_t)pc;
+}
+
+static unsigned long pc_now(void)
+{
+    return saved[Z8_AT_PC] * 256ul + saved[Z8_AT_PC + 1];
+}
+
+/* ---- Examples as lists of facts before and after ---- */
+
+enum fact_kind { NO_FACT, REGISTER, REGISTER_PAIR, FLAG_BITS, COUNTER, PROGRAM, DATA };
+
+struct fact {
+    enum fact_kind kind;
+    unsigned at, value;
+};
+
+#define REG(address, value) {REGISTER, (address), (value)}
+#define R(n, value) {REGISTER, 0x10 + (n), (value)}
+#define RR(n, value) {REGISTER_PAIR, 0x10 + (n), (value)}
+#define PAIR(address, value) {REGISTER_PAIR, (address), (value)}
+#define SET(flags) {FLAG_BITS, (flags), 0xFF}
+#define CLEAR(flags) {FLAG_BITS, (flags), 0x00}
+#define PC_IS(value) {COUNTER, 0, (value)}
+#define PROG(address, value) {PROGRAM, (address), (value)}
+#define MEM(address, value) {DATA, (address), (value)}
+#define EXTERNAL_STACK REG(P01M, 0x00)
+#define SP(value) PAIR(0xFE, (value))
+#define NOTHING {NO_FACT, 0, 0}
+
+#define FACTS_MOST 12
+
+struct example {
+    const char *where, *words;
+    unsigned pc, steps;
+    uint8_t length, bytes[16];
+    struct fact before[FACTS_MOST], after[FACTS_MOST];
+};
+
+/* The registers that the pages name without a number. */
+enum { SUM = 0x40, AUGEND = 0x41, TARGET = 0x42, TEST = 0x43, MINUEND = 0x44, SHIFTER = 0x45 };
+enum { BCD = 0x46, TESTER = 0x47, MASK = 0x48, OLDBUF = 0x2F, NEWBUF = 0x4F };
+
+static const struct example examples[] = {
+    {"5.4.1",
+     "If the contents of registers %43 and %08 are added and the result stored in %43 [...] ADD %43,%08 "
+     "[...] 04 08 43",
+     0x200, 1, 3, {0x04, 0x08, 0x43},
+     {REG(0x43, 0x21), REG(0x08, 0x32)}, {REG(0x43, 0x53), REG(0x08, 0x32)}},
+    {"5.4.1",
+     "If [...] register %08 is a working register [...] ADD %43, R8 [...] 04 E8 43",
+     0x200, 1, 3, {0x04, 0xE8, 0x43},
+     {REG(0x43, 0x21), R(8, 0x32), REG(0x08, 0x77)}, {REG(0x43, 0x53), R(8, 0x32)}},
+    {"5.5, Note 1",
+     "the opcode of an ADC instruction using the addressing modes r (destination) and Ir (source) is 13",
+     0x200, 1, 2, {0x13, 0x35},
+     {R(3, 0x21), R(5, 0x30), REG(0x30, 0x32), SET(C)}, {R(3, 0x54), R(5, 0x30)}},
+    {"ADC",
+     "SUM contains %16, the C flag is set to 1, working register 10 contains %20 (32 decimal), and "
+     "register 32 contains %10 [...] ADC SUM,@R10 leaves the value %27 in Register SUM. The C, Z, S, V, "
+     "D, and H flags are all cleared.",
+     0x200, 1, 3, {0x15, 0xEA, SUM},
+     {REG(SUM, 0x16), SET(C), R(10, 0x20), REG(32, 0x10)}, {REG(SUM, 0x27), CLEAR(C | Z | S | V | D | H)}},
+    {"ADD",
+     "SUM contains %44 and the register named AUGEND contains %11 [...] ADD SUM, AUGEND leaves the "
+     "value %55 in register SUM and leaves all flags cleared.",
+     0x200, 1, 3, {0x04, AUGEND, SUM},
+     {REG(SUM, 0x44), REG(AUGEND, 0x11)}, {REG(SUM, 0x55), CLEAR(C | Z | S | V | D | H)}},
+    {"AND",
+     "the immediate value %7B (01111011) and the register named TARGET contains %C3 [...] AND TARGET, "
+     "#%7B leaves the value %43 (01000011) in register TARGET. The Z, V, and S flags are cleared.",
+     0x200, 1, 3, {0x56, TARGET, 0x7B},
+     {REG(TARGET, 0xC3)}, {REG(TARGET, 0x43), CLEAR(Z | V | S)}},
+    {"CALL",
+     "the contents of the PC are %1A47 and [the SP] %3002 [...] CALL %3521 causes the SP to be "
+     "decremented to %3000, %1A4A [...] is stored in external data memory %3000-%3001, and the PC is "
+     "loaded with %3521.",
+     0x1A47, 1, 3, {0xD6, 0x35, 0x21},
+     {EXTERNAL_STACK, SP(0x3002)},
+     {SP(0x3000), MEM(0x3000, 0x1A), MEM(0x3001, 0x4A), PC_IS(0x3521), MEM(0x2FFF, 0x99),
+      MEM(0x3002, 0x99)}},
+    {"CCF",
+     "If the C flag contains a 0, the statement CCF will change the 0 to 1.",
+     0x200, 1, 1, {0xEF},
+     {CLEAR(C)}, {SET(C)}},
+    {"CCF",
+     "if C = 1, it is changed to C = 0, and vice-versa",
+     0x200, 1, 1, {0xEF},
+     {SET(C)}, {CLEAR(C)}},
+    {"CLR",
+     "If working register 6 contains %AF, the statement CLR R6 will leave the value 0 in that register",
+     0x200, 1, 2, {0xB0, 0xE6},
+     {R(6, 0xAF)}, {R(6, 0)}},
+    {"COM",
+     "If working register 8 contains %24 [...] COM R8 leaves the value %DB (11011011) in that register. "
+     "The Z and V flags are cleared and the S flag is set.",
+     0x200, 1, 2, {0x60, 0xE8},
+     {R(8, 0x24)}, {R(8, 0xDB), CLEAR(Z | V), SET(S)}},
+    {"CP",
+     "TEST contains %63, working register 0 contains %30 (48 decimal), and register 48 contains %63 "
+     "[...] CP TEST,@R0 sets (only) the Z flag.",
+     0x200, 1, 3, {0xA5, 0xE0, TEST},
+     {REG(TEST, 0x63), R(0, 0x30), REG(48, 0x63), CLEAR(Z | D | H)},
+     {SET(Z), CLEAR(C | S | V | D | H), REG(TEST, 0x63)}},
+    {"CP",
+     "If this statement is followed by \"JP EQ, true_routine\", the jump is taken.",
+     0x200, 2, 6, {0xA5, 0xE0, TEST, 0x6D, 0x12, 0x34},
+     {REG(TEST, 0x63), R(0, 0x30), REG(48, 0x63)}, {PC_IS(0x1234)}},
+    {"DA",
+     "addition is performed using the BCD values 15 and 27 [...] = %3C",
+     0x200, 1, 3, {0x06, BCD, 0x27},
+     {REG(BCD, 0x15)}, {REG(BCD, 0x3C)}},
+    {"DA",
+     "The DA statement adjusts this result [...] = 42 The C, Z, and S flags are cleared",
+     0x200, 2, 5, {0x06, BCD, 0x27, 0x40, BCD},
+     {REG(BCD, 0x15)}, {REG(BCD, 0x42), CLEAR(C | Z | S)}},
+    {"DEC",
+     "If working register 10 contains %2A, the statement DEC R10 leaves the value %29 in that register. "
+     "The Z, V, and S flags are cleared.",
+     0x200, 1, 2, {0x00, 0xEA},
+     {R(10, 0x2A)}, {R(10, 0x29), CLEAR(Z | V | S)}},
+    {"DECW",
+     "If working register 0 contains %30 (48 decimal) and registers 48-49 contain the value %FAF3, the "
+     "statement DECW @R0 leaves the value %FAF2 in registers 48 and 49. The Z and V flags are cleared "
+     "and S is set.",
+     0x200, 1, 2, {0x81, 0xE0},
+     {R(0, 0x30), PAIR(48, 0xFAF3)}, {PAIR(48, 0xFAF2), CLEAR(Z | V), SET(S)}},
+    {"DI",
+     "If control register 251 contains %8A [...] DI sets control register 251 to %0A",
+     0x200, 1, 1, {0x8F},
+     {REG(251, 0x8A)}, {REG(251, 0x0A)}},
+    {"DJNZ",
+     "LD R6,#12 / LOOP: LD R9,OLDBUF(R6) / LD NEWBUF(R6),R9 / DJNZ R6,LOOP (12 bytes are moved): the "
+     "first and the last",
+     0x200, 37, 10, {0x6C, 12, 0xC7, 0x96, OLDBUF, 0xD7, 0x96, NEWBUF, 0x6A, 0xF8},
+     {REG(OLDBUF, 1), REG(OLDBUF + 1, 2), REG(OLDBUF + 2, 3), REG(OLDBUF + 12, 13), REG(NEWBUF, 91),
+      REG(NEWBUF + 1, 92), REG(NEWBUF + 12, 94), REG(NEWBUF + 13, 95)},
+     {REG(NEWBUF, 91), REG(NEWBUF + 1, 2), REG(NEWBUF + 2, 3), REG(NEWBUF + 12, 13), REG(NEWBUF + 13, 95),
+      R(6, 0), PC_IS(0x20A)}},
+    {"EI",
+     "If control register 251 contains %0A [...] EI sets control register 251 to %8A",
+     0x200, 1, 1, {0x9F},
+     {REG(251, 0x0A)}, {REG(251, 0x8A)}},
+    {"INC",
+     "If working register 10 contains %2A, the statement INC R10 leaves the value %2B in that register. "
+     "The Z, V, and S flags are cleared.",
+     0x200, 1, 1, {0xAE},
+     {R(10, 0x2A)}, {R(10, 0x2B), CLEAR(Z | V | S)}},
+    {"INC",
+     "the same in the other format, INC R with E",
+     0x200, 1, 2, {0x20, 0xEA},
+     {R(10, 0x2A)}, {R(10, 0x2B), CLEAR(Z | V | S)}},
+    {"INCW",
+     "If working-register pair 0-1 contains the value %FAF3, the statement INCW RR0 leaves the value "
+     "%FAF4 in working-register pair 0-1. The Z and V flags are cleared and S is set.",
+     0x200, 1, 2, {0xA0, 0xE0},
+     {RR(0, 0xFAF3)}, {RR(0, 0xFAF4), CLEAR(Z | V), SET(S)}},
+    {"JP",
+     "If the carry flag is set, the statement JP C,%1520 replaces the contents of the Program Counter "
+     "with %1520",
+     0x200, 1, 3, {0x7D, 0x15, 0x20},
+     {SET(C)}, {PC_IS(0x1520)}},
+    {"JP",
+     "Had the carry flag not been set, control would have fallen through to the statement following the "
+     "JP.",
+     0x200, 1, 3, {0x7D, 0x15, 0x20},
+     {CLEAR(C)}, {PC_IS(0x203)}},
+    {"JR",
+     "[If the result of the last operation i]s negative, the following [... are s]kipped with the "
+     "statement JR MI,$+9",
+     0x200, 1, 2, {0x5B, 0x07},
+     {SET(S)}, {PC_IS(0x209)}},
+    {"JR",
+     "[If] the result is not neg[ative, execution continu]es with the statement following the [JR]",
+     0x200, 1, 2, {0x5B, 0x07},
+     {CLEAR(S)}, {PC_IS(0x202)}},
+    {"JR",
+     "JR LO [...] The condition code is \"blank\" in this case, and is assumed to be \"always true.\"",
+     0x200, 1, 2, {0x8B, 0x10},
+     {NOTHING}, {PC_IS(0x212)}},
+    {"LD",
+     "If working register 0 contains %0B (11 decimal) and working register 10 contains %83, the "
+     "statement LD 240(R0),R10 will load the value %83 into register 251 (240 + 11). [...] The contents "
+     "of working register 10 are unaffected by the load.",
+     0x200, 1, 3, {0xD7, 0xA0, 240},
+     {R(0, 0x0B), R(10, 0x83)}, {REG(251, 0x83), R(10, 0x83)}},
+    {"LDC",
+     "If the working-register pair 6-7 contains %30A2 and program-memory location %30A2 contains the "
+     "value %22, the statement LDC R2,@RR6 loads the value %22 into working register 2. The value of "
+     "location %30A2 is unchanged by the load.",
+     0x200, 1, 2, {0xC2, 0x26},
+     {RR(6, 0x30A2), PROG(0x30A2, 0x22)}, {R(2, 0x22), PROG(0x30A2, 0x22)}},
+    {"LDCI",
+     "pair 6-7 contains %30A2 and program-memory locations %30A2 and %30A3 contain %22BC, and if "
+     "working register R2 contains %20 (32 decimal), the statement LDCI @R2,@RR6 loads the value %22 "
+     "into register 32.",
+     0x200, 1, 2, {0xC3, 0x26},
+     {RR(6, 0x30A2), PROG(0x30A2, 0x22), PROG(0x30A3, 0xBC), R(2, 0x20)},
+     {REG(32, 0x22), R(2, 0x21), RR(6, 0x30A3)}},
+    {"LDCI",
+     "A second LDCI @R2,@RR6 loads the value %BC into register 33.",
+     0x200, 2, 4, {0xC3, 0x26, 0xC3, 0x26},
+     {RR(6, 0x30A2), PROG(0x30A2, 0x22), PROG(0x30A3, 0xBC), R(2, 0x20)},
+     {REG(32, 0x22), REG(33, 0xBC), R(2, 0x22), RR(6, 0x30A4)}},
+    {"LDE",
+     "If the working-register pair 6-7 contains %404A and working register 2 contains %22, the "
+     "statement LDE @RR6,R2 loads the value %22 into external data-memory location %404A.",
+     0x200, 1, 2, {0x92, 0x26},
+     {RR(6, 0x404A), R(2, 0x22)}, {MEM(0x404A, 0x22), MEM(0x404B, 0x99)}},
+    {"LDEI",
+     "pair 6-7 contains %404A, working register 2 contains %22 (34 decimal), and registers 34-35 "
+     "contain %ABC3, the statement LDEI @RR6,@R2 loads the value %AB into external location %404A.",
+     0x200, 1, 2, {0x93, 0x26},
+     {RR(6, 0x404A), R(2, 0x22), PAIR(34, 0xABC3)}, {MEM(0x404A, 0xAB), MEM(0x404B, 0x99)}},
+    {"LDEI",
+     "A second LDEI @RR6,@R2 loads the value %C3 into external location %404B.",
+     0x200, 2, 4, {0x93, 0x26, 0x93, 0x26},
+     {RR(6, 0x404A), R(2, 0x22), PAIR(34, 0xABC3)}, {MEM(0x404A, 0xAB), MEM(0x404B, 0xC3)}},
+    {"OR",
+     "the immediate value %7B [...] TARGET contains %C3 [...] OR TARGET,#%7B leaves the value %FB "
+     "(11111011) in register TARGET. The Z and V flags are cleared and S is set.",
+     0x200, 1, 3, {0x46, TARGET, 0x7B},
+     {REG(TARGET, 0xC3)}, {REG(TARGET, 0xFB), CLEAR(Z | V), SET(S)}},
+    {"POP",
+     "the SP (control registers 254-255) contains %1000, [external location] %1000 contains %55, and "
+     "working register 6 contains %22 (34 decimal), the statement POP @R6 loads the value %55 into "
+     "register 34. After [...] %1001.",
+     0x200, 1, 2, {0x51, 0xE6},
+     {EXTERNAL_STACK, SP(0x1000), MEM(0x1000, 0x55), R(6, 0x22)}, {REG(34, 0x55), SP(0x1001)}},
+    {"RL",
+     "SHIFTER are %88 (10001000), the statement RL SHIFTER leaves the value %11 (00010001) in that "
+     "register. The C flag and V flags are set to 1 and the Z flag is cleared.",
+     0x200, 1, 2, {0x90, SHIFTER},
+     {REG(SHIFTER, 0x88)}, {REG(SHIFTER, 0x11), SET(C | V), CLEAR(Z)}},
+    {"RLC",
+     "If the [Carry flag is rese]t (to 0) and the register named SHIFTER contains %8F (10001111) [...] "
+     "RLC SHIFTER sets the C flag and the V flag to 1 and SHIFTER contains %1E (00011110).",
+     0x200, 1, 2, {0x10, SHIFTER},
+     {REG(SHIFTER, 0x8F), CLEAR(C)}, {REG(SHIFTER, 0x1E), SET(C | V)}},
+    {"RRC",
+     "SHIFTER are %DD (11011101) and the Carry flag is reset to 0, the statement RRC SHIFTER sets the C "
+     "flag and the V flag and leaves the value %6E (01101110) in the register.",
+     0x200, 1, 2, {0xC0, SHIFTER},
+     {REG(SHIFTER, 0xDD), CLEAR(C)}, {REG(SHIFTER, 0x6E), SET(C | V)}},
+    {"SBC",
+     "MINUEND contains %16, the Carry flag is set to 1, working register 10 contains %20 (32 decimal), "
+     "and register 32 contains %05 [...] SBC MINUEND,@R10 leaves the value %10 in register MINUEND. The "
+     "C, Z, V, S and H flags are cleared and D is set.",
+     0x200, 1, 3, {0x35, 0xEA, MINUEND},
+     {REG(MINUEND, 0x16), SET(C), R(10, 0x20), REG(32, 0x05)},
+     {REG(MINUEND, 0x10), CLEAR(C | Z | V | S | H), SET(D)}},
+    {"SRA",
+     "SHIFTER contains %B8 (10111000), the statement SRA SHIFTER resets the C flag to 0 and leaves the "
+     "value %DC (11011100) in register SHIFTER. The S flag is set to 1.",
+     0x200, 1, 2, {0xD0, SHIFTER},
+     {REG(SHIFTER, 0xB8)}, {REG(SHIFTER, 0xDC), CLEAR(C), SET(S)}},
+    {"SRP",
+     "If the RP currently addresses the control and peripheral register group [...] SRP #%70 [...] "
+     "setting the RP to %70",
+     0x200, 1, 2, {0x31, 0x70},
+     {REG(RP, 0xF0), REG(IPR, 0x2C)}, {REG(RP, 0x70), REG(IPR, 0x2C)}},
+    {"SRP",
+     "Any reference to working registers in the interrupt [routine will point to registers 112-127]: "
+     "SRP #%70, INC R0, INC R15",
+     0x200, 3, 4, {0x31, 0x70, 0x0E, 0xFE},
+     {REG(RP, 0xF0), REG(112, 5), REG(127, 6)}, {REG(112, 6), REG(127, 7)}},
+    {"SUB",
+     "MINUEND contains %29, the statement SUB MINUEND,#%11 will leave the value %18 in the register. "
+     "The C, Z, V, S and H flags are cleared and D is set.",
+     0x200, 1, 3, {0x26, MINUEND, 0x11},
+     {REG(MINUEND, 0x29)}, {REG(MINUEND, 0x18), CLEAR(C | Z | V | S | H), SET(D)}},
+    {"SWAP",
+     "BCD_Operands contains %B3 (10110011). The statement SWAP BCD_Operands will leave the value %3B "
+     "(00111011) in the register. The Z and S flags are cleared.",
+     0x200, 1, 2, {0xF0, BCD},
+     {REG(BCD, 0xB3)}, {REG(BCD, 0x3B), CLEAR(Z | S)}},
+    {"3.2.1",
+     "R243 and R245-R249 are write-only registers. If an attempt is made to read these registers, %FF "
+     "is returned: R243, R245",
+     0x200, 2, 4, {0x08, 243, 0x18, 245},
+     {REG(243, 0x21), REG(245, 0x22)}, {R(0, 0xFF), R(1, 0xFF)}},
+    {"3.2.1",
+     "the same: R246 to R249",
+     0x200, 4, 8, {0x08, 246, 0x18, 247, 0x28, 248, 0x38, 249},
+     {REG(246, 0x21), REG(247, 0x22), REG(248, 0x04), REG(249, 0x24)},
+     {R(0, 0xFF), R(1, 0xFF), R(2, 0xFF), R(3, 0xFF)}},
+    {"3.2.1",
+     "When register R253 (Register Pointer) is read, all 0s are returned in the least significant four "
+     "bits.",
+     0x200, 2, 5, {0xE6, 0xFD, 0x1B, 0x08, 0xFD},
+     {NOTHING}, {R(0, 0x10)}},
+    {"3.2.1",
+     "When registers R0 and R1 [...] are defined as address outputs, they will return 1s in each "
+     "address bit location when read. Writing to bits which are defined as address output [...] will "
+     "have no effect.",
+     0x200, 3, 7, {0xE6, 0x00, 0x25, 0x08, 0x00, 0x18, 0x01},
+     {REG(P01M, 0x16), REG(0, 0x83), REG(1, 0x84)}, {REG(0, 0x23), R(0, 0x2F), R(1, 0xFF)}},
+    {"10.5",
+     "OR IRQ,#%2 00100000 [...] if the interrupt system is globally enabled, level 5 is enabled, and "
+     "there are no higher priority pending requests, control is transferred to the service routine "
+     "pointed to by the level 5 vector",
+     0x200, 2, 3, {0x46, IRQ, 0x20},
+     {REG(IPR, 0x08), REG(IMR, 0xA0), PROG(10, 0x43), PROG(11, 0x21), REG(0xFF, 0x60)},
+     {PC_IS(0x4321), REG(IRQ, 0), REG(IMR, 0x20), REG(0x5E, 0x02), REG(0x5F, 0x03), REG(0xFF, 0x5D)}},
+    {"10.7",
+     "TM IRQ,#MASK / JR Z NEXT / CALL SERVICE, IRQ_2 polled, MASK 00000100: no request, so \"go to "
+     "NEXT\"",
+     0x200, 2, 8, {0x76, IRQ, 0x04, 0x6B, 0x03, 0xD6, 0x30, 0x00},
+     {REG(IRQ, 0x3B), REG(0xFF, 0x60)}, {PC_IS(0x208), REG(IRQ, 0x3B)}},
+    {"10.7",
+     "\"If request is there then service it\": the same with AND IRQ,#MASK_ (11111011) / RET at "
+     "SERVICE, \"Return to next\"",
+     0x200, 5, 8, {0x76, IRQ, 0x04, 0x6B, 0x03, 0xD6, 0x30, 0x00},
+     {REG(IRQ, 0x3F), REG(0xFF, 0x60), PROG(0x3000, 0x56), PROG(0x3001, IRQ), PROG(0x3002, 0xFB),
+      PROG(0x3003, 0xAF)},
+     {PC_IS(0x208), REG(IRQ, 0x3B), REG(0xFF, 0x60)}},
+    {"10.6.2",
+     "Push the old IMR on the stack. Load IMR with a new mask [...] Execute EI instruction. [...] execute DI "
+     "instruction. Restore the IMR to its original value [...] Execute IRET.",
+     0x200, 6, 10, {0x70, IMR, 0xE6, IMR, 0x20, 0x9F, 0x8F, 0x50, IMR, 0xBF},
+     {REG(IMR, 0x3B), REG(0xFF, 0x5D), REG(0x5D, 0xA7), REG(0x5E, 0x12), REG(0x5F, 0x34)},
+     {REG(IMR, 0xBB), REG(0xFF, 0x60), REG(FLAGS, 0xA7), PC_IS(0x1234)}},
+    {"10.4.3",
+     "CLR IMR / EI / DI",
+     0x200, 3, 4, {0xB0, IMR, 0x9F, 0x8F},
+     {REG(IMR, 0x3F), REG(IRQ, 0x3F)}, {REG(IMR, 0), PC_IS(0x204)}},
+    {"10.8",
+     "[IMR] Bit D_6 is not implemented, though reading this bit returns 0. [IRQ] Bits D_6 and D_7 are "
+     "not implemented, but reading these bits returns 0.",
+     0x200, 4, 10, {0xE6, IMR, 0x7F, 0x08, IMR, 0xE6, IRQ, 0xFF, 0x18, IRQ},
+     {NOTHING}, {R(0, 0x3F), R(1, 0x3F)}},
+    {"11.3.1",
+     "OR TMR,#%03 sets both D_0 and D_1 of TMR to 1. This loads the initial values of PRE_0 and T_0 "
+     "into their respective counters and starts the count (\"The next internal clock resets bits D_0 "
+     "and D_2 to 0\")",
+     0x200, 1, 3, {0x46, TMR, 0x03},
+     {REG(PRE0, 0x00), REG(T0, 0x37), REG(Z8_AT_T0_COUNTER, 9), REG(Z8_AT_T0_PRESCALER, 8)},
+     {REG(TMR, 0x02), REG(Z8_AT_T0_COUNTER, 0x37), REG(Z8_AT_T0_PRESCALER, 64 - 10 / 4)}},
+};
+
+/* Examples that are misprinted or misread in the text of 004, or that a rule decides against. */
+struct misprint {
+    const char *where, *printed, *wrong, *rule;
+    struct example as_ruled;
+};
+
+static const struct misprint misprints[] = {
+    {"XOR",
+     "%7B (011111011) [...] OR TARGET,#%7B leaves the value %B8 (10111000) in the register.",
+     "the statement printed is OR, whose page gives %FB; nine binary digits",
+     "XOR TARGET,#%7B: C3 XOR 7B = B8",
+     {"XOR",
+      "XOR TARGET,#%7B",
+      0x200, 1, 3, {0xB6, TARGET, 0x7B},
+      {REG(TARGET, 0xC3)}, {REG(TARGET, 0xB8), CLEAR(Z | V), SET(S)}}},
+    {"RET",
+     "location %2000 contains %18, and location %2001 contains %85 [...] the PC contains %18B5",
+     "%85 and %18B5 don't agree",
+     "PC is what the two locations hold: %18B5 comes from %B5, and %85 gives %1885",
+     {"RET",
+      "RET with %B5",
+      0x3584, 1, 1, {0xAF},
+      {EXTERNAL_STACK, SP(0x2000), MEM(0x2000, 0x18), MEM(0x2001, 0xB5)}, {SP(0x2002), PC_IS(0x18B5)}}},
+    {"RET",
+     "location %2001 contains %85",
+     "as above",
+     "%85 gives %1885",
+     {"RET",
+      "RET with %85",
+      0x3584, 1, 1, {0xAF},
+      {EXTERNAL_STACK, SP(0x2000), MEM(0x2000, 0x18), MEM(0x2001, 0x85)}, {SP(0x2002), PC_IS(0x1885)}}},
+    {"TM",
+     "MASK contains %D6 (D0D0D110), that is, bits 1 and 2 are being tested [...] results in the value "
+     "%06 (00000110). [...] The Z and S flags are cleared.",
+     "F6 AND D6 is D6, with S set; only bits 1 and 2 are named",
+     "MASK is %06 (00000110): Z and S clear, JP NZ jumps, TESTER stays",
+     {"TM",
+      "TM TESTER,MASK with %06, then JP NZ",
+      0x200, 2, 6, {0x74, MASK, TESTER, 0xED, 0x12, 0x34},
+      {REG(TESTER, 0xF6), REG(MASK, 0x06)}, {REG(TESTER, 0xF6), CLEAR(Z | S), PC_IS(0x1234)}}},
+    {"TM",
+     "MASK contains %D6",
+     "as above",
+     "with %D6 the result is D6: S set, Z clear",
+     {"TM",
+      "TM TESTER,MASK with %D6",
+      0x200, 1, 3, {0x74, MASK, TESTER},
+      {REG(TESTER, 0xF6), REG(MASK, 0xD6)}, {REG(TESTER, 0xF6), CLEAR(Z), SET(S)}}},
+    {"PUSH",
+     "If the SP contains %1^n01, the statement PUSH FLAGS stores the contents of the register named "
+     "FLAGS in location %1000. [...] the SP contains %1000.",
+     "a figure of the SP can't be read",
+     "SP - 1 is %1000, so it was %1001",
+     {"PUSH",
+      "PUSH FLAGS",
+      0x200, 1, 2, {0x70, FLAGS},
+      {EXTERNAL_STACK, SP(0x1001), REG(FLAGS, 0xB4)}, {SP(0x1000), MEM(0x1000, 0xB4), MEM(0x1001, 0x99)}}},
+    {"RR",
+     "working register 6 are $31 (00110001), the statement RR R6 sets the C flag to 1 and leaves the "
+     "value % [lost] Since bit 7 now equals 1, the S flag and the V [lost]",
+     "the value and the end of the sentence are lost",
+     "RR of 31 is 98, with C, S and V set",
+     {"RR",
+      "RR R6",
+      0x200, 1, 2, {0xE0, 0xE6},
+      {R(6, 0x31)}, {R(6, 0x98), SET(C | S | V), CLEAR(Z)}}},
+    {"JP",
+     "The unconditional jump simply replaces the contents of the Program Counter with the contents of "
+     "the specified register pair. Control then passes to the statement addressed by the PC, "
+     "decremented by one.",
+     "the second sentence contradicts the first",
+     "PC is the pair's word, nothing is taken off",
+     {"JP",
+      "JP @RR4",
+      0x200, 1, 2, {0x30, 0xE4},
+      {RR(4, 0x1520)}, {PC_IS(0x1520)}}},
+    {"10.4.3, 10.8",
+     "IRQ is held in a Reset state until an EI instruction is executed.",
+     "01 (HOUSE): requests are latched at all times",
+     "a store of a request stays without an EI",
+     {"10.4.3",
+      "LD IRQ,#%04 without an EI",
+      0x200, 1, 3, {0xE6, IRQ, 0x04},
+      {NOTHING}, {REG(IRQ, 0x04)}}},
+    {"11.4",
+     "While programmed as T_OUT, P3_6 cannot be modified by a write to port register P3.",
+     "01 (HOUSE): other port stores go to the latch, and an output bit reads its latch",
+     "the latch takes the bit, and it reads so",
+     {"11.4",
+      "LD P3,#%40 / LD R0,P3 with T0 out",
+      0x200, 2, 5, {0xE6, 0x03, 0x40, 0x08, 0x03},
+      {REG(TMR, 0x40)}, {REG(0x03, 0x40), R(0, 0x4F)}}},
+    {"3.2.1, DJNZ",
+     "Only registers R4-R127 can be used with this instruction [...] undefined results.",
+     "01 has no such limit: registers follow the register rules",
+     "DJNZ on SPH (254) counts it down",
+     {"DJNZ",
+      "DJNZ R14 with RP F0",
+      0x200, 1, 2, {0xEA, 0x10},
+      {REG(RP, 0xF0), REG(0xFE, 0x02)}, {REG(0xFE, 0x01), PC_IS(0x212)}}},
+};
+
+static void establish(const struct fact *f)
+{
+    switch (f->kind) {
+    case NO_FACT:
+        break;
+    case REGISTER:
+        saved[f->at] = (uint8_t)f->value;
+        break;
+    case REGISTER_PAIR:
+        saved[f->at] = (uint8_t)(f->value / 256);
+        saved[f->at + 1] = (uint8_t)f->value;
+        break;
+    case FLAG_BITS:
+        saved[FLAGS] = (uint8_t)((saved[FLAGS] & ~f->at) | (f->value & f->at));
+        break;
+    case COUNTER:
+        set_pc(f->value);
+        break;
+    case PROGRAM:
+        image[f->at] = (uint8_t)f->value;
+        break;
+    case DATA:
+        data[f->at] = (uint8_t)f->value;
+        break;
+    }
+}
+
+static void verify(const struct fact *f, const char *who, const struct example *e)
+{
+    switch (f->kind) {
+    case NO_FACT:
+        break;
+    case REGISTER:
+        check(f->value, saved[f->at], who, e->where, e->words);
+        break;
+    case REGISTER_PAIR:
+        check(f->value, saved[f->at] * 256ul + saved[f->at + 1], who, e->where, e->words);
+        break;
+    case FLAG_BITS:
+        check(f->value & f->at, saved[FLAGS] & f->at, who, e->where, e->words);
+        break;
+    case COUNTER:
+        check(f->value, pc_now(), who, e->where, e->words);
+        break;
+    case PROGRAM:
+        check(f->value, image[f->at], who, e->where, e->words);
+        break;
+    case DATA:
+        check(f->value, data[f->at], who, e->where, e->words);
+        break;
+    }
+}
+
+static void run_example(const struct example *e, const struct engine *engine, unsigned type,
+                        uint8_t other_flags)
+{
+    unsigned k;
+
+    new_machine(type);
+    saved[FLAGS] = other_flags;
+    memcpy(image + e->pc, e->bytes, e->length);
+    set_pc(e->pc);
+    for (k = 0; k < FACTS_MOST; k++) {
+        establish(&e->before[k]);
+    }
+    for (k = 0; k < e->steps; k++) {
+        check(0, engine->step(0xFF), engine->name, e->where, "a step's answer");
+    }
+    for (k = 0; k < FACTS_MOST; k++) {
+        verify(&e->after[k], engine->name, e);
+    }
+}
+
+static void run_example_in_all_ways(const struct example *e)
+{
+    int way;
+
+    for (way = 0; way < 8; way++) {
+        run_example(e, &engines[way & 1], way & 2 ? Z8_TYPE_Z8601 : Z8_TYPE_Z8611, way & 4 ? 0xFF : 0x00);
+    }
+}
+
+/* ---- What takes more than a list of facts ---- */
+
+/* 3.4: "The first address available for a user program is location 12. This address is loaded into the
+   Program Counter after a hardware reset." 10.8: "In IMR, bit D_7 is 0", "IRQ bits D_0-D_5 are held at
+   0". 11.7: "the counter/timers are disabled [...] the counting modes are configured for Single-Pass and
+   T_1's clock source is set for external. T_IN is set for External Clock mode, and the T_OUT mode is
+   off." 9.7: "Ports 0, 1 and 2 are configured for input operation". */
+static void check_reset(void)
+{
+    new_machine(Z8_TYPE_Z8601);
+    memset(saved + 4, 0x5F, 0x7C);
+    saved[IMR] = saved[PRE0] = saved[PRE1] = 0xFF;
+    saved[IRQ] = 0x3F;
+    saved[TMR] = 0xFA;
+    set_pc(0x1234);
+    check(0, z8_reset(saved, Z8_SAVED_LEN), "z8_reset", "3.4", "the answer");
+    check(12, pc_now(), "z8_reset", "3.4",
+          "location 12 is loaded into the Program Counter after a hardware reset");
+    check(0, saved[IMR] & 0x80, "z8_reset", "10.8", "In IMR, bit D_7 is 0");
+    check(0, saved[IRQ], "z8_reset", "10.8", "IRQ bits D_0-D_5 are 0");
+    check(0, saved[TMR], "z8_reset", "11.7", "disabled, External Clock mode, T_OUT off");
+    check(0, saved[PRE0] & 1, "z8_reset", "11.7", "T0 Single-Pass");
+    check(0, saved[PRE1] & 3, "z8_reset", "11.7", "T1 Single-Pass, external");
+    check(0xFF, saved[0xF6], "z8_reset", "9.7", "Port 2 is input on all bits");
+    check(0x49, saved[P01M] & 0xD9, "z8_reset", "9.7", "Ports 0 and 1 are input");
+    check(0x5F, saved[0x7F], "z8_reset", "8, protected registers", "R127 stays");
+}
+
+/* Table 10-1: IRQ0 at 0,1; IRQ1 at 2,3; IRQ2 at 4,5; IRQ3 at 6,7; IRQ4 at 8,9; IRQ5 at 10,11; and the edges
+   of P3_2, P3_3, P3_1, P3_0 for the first four. 10.6: "PUSH PC lower byte on stack", "PUSH PC upper byte",
+   "PUSH FLAGS". */
+static void check_vectors(const struct engine *engine)
+{
+    static const uint8_t line[4] = {0x04, 0x08, 0x02, 0x01};
+    unsigned n, k;
+
+    for (n = 0; n < 6; n++) {
+        new_machine(Z8_TYPE_Z8611);
+        for (k = 0; k < 12; k++) {
+            image[k] = (uint8_t)(0x20 + k);
+        }
+        saved[IPR] = 0x08;
+        saved[IMR] = 0xBF;
+        saved[0xFF] = 0x60;
+        saved[FLAGS] = 0x5C;
+        set_pc(0x1234);
+        if (n >= 4) {
+            saved[IRQ] = (uint8_t)(1 << n);
+        }
+        engine->step(n < 4 ? (uint8_t)~line[n] : 0xFF);
+        check((0x20 + 2 * n) * 256 + 0x21 + 2 * n, pc_now(), engine->name, "Table 10-1", "vector");
+        check(0x34, saved[0x5F], engine->name, "10.6", "PC lower byte pushed first");
+        check(0x12, saved[0x5E], engine->name, "10.6", "PC upper byte next");
+        check(0x5C, saved[0x5D], engine->name, "10.6", "FLAGS last");
+    }
+}
+
+/* Which of six pending requests are granted in turn, as a number of six figures. */
+static unsigned long grants_in_turn(const struct engine *engine, unsigned ipr)
+{
+    unsigned long order = 0;
+    unsigned k;
+
+    new_machine(Z8_TYPE_Z8611);
+    for (k = 0; k < 12; k++) {
+        image[k] = (uint8_t)(k % 2 == 0 ? 0x40 : k / 2); /* the vector's low byte tells which */
+    }
+    saved[IPR] = (uint8_t)ipr;
+    saved[IRQ] = 0x3F;
+    for (k = 0; k < 6; k++) {
+        saved[IMR] = 0xBF;
+        saved[0xFF] = 0x60;
+        engine->step(0xFF);
+        order = order * 10 + saved[Z8_AT_PC + 1];
+    }
+    return order;
+}
+
+/* Table 10-2: the groups' members by D_1, D_2, D_5 and the groups' orders; 01 reads the orders' middle bit
+   from D_3, as 10.4.1's text does, where the table's head has D_2. "There are 48 sequence possibilities for
+   interrupts." */
+static void check_priorities(const struct engine *engine)
+{
+    static const struct {
+        unsigned bits;
+        const char *groups;
+    } orders[6] = {
+        {0x01, "CAB"}, {0x08, "ABC"}, {0x09, "ACB"}, {0x10, "BCA"}, {0x11, "CBA"}, {0x18, "BAC"},
+    };
+    unsigned long seen[48], found, expected;
+    unsigned different = 0, order, members, k;
+
+    for (order = 0; order < 6; order++) {
+        for (members = 0; members < 8; members++) {
+            unsigned ipr = orders[order].bits | (members & 1 ? 0x02 : 0) | (members & 2 ? 0x04 : 0)
+                           | (members & 4 ? 0x20 : 0);
+
+            expected = 0;
+            for (k = 0; k < 3; k++) {
+                switch (orders[order].groups[k]) {
+                case 'A':
+                    expected = expected * 100 + (members & 4 ? 35 : 53);
+                    break;
+                case 'B':
+                    expected = expected * 100 + (members & 2 ? 2 : 20);
+                    break;
+                default:
+                    expected = expected * 100 + (members & 1 ? 41 : 14);
+                    break;
+                }
+            }
+            found = grants_in_turn(engine, ipr);
+            check(expected, found, engine->name, "Table 10-2", "the order of the six requests");
+            for (k = 0; k < different && seen[k] != found; k++) {
+            }
+            if (k == different) {
+                seen[different++] = found;
+            }
+        }
+    }
+    check(48, different, engine->name, "10.4.1", "There are 48 sequence possibilities for interrupts.");
+}
+
+/* 11.3.2: "if the prescaler is set to divide by 3, the count sequence is: 3-2-1-3-2-1-3-2". */
+static void check_prescaler_sequence(void)
+{
+    static const uint8_t sequence[8] = {3, 2, 1, 3, 2, 1, 3, 2};
+    uint32_t ends0, ends1;
+    int k;
+
+    new_machine(Z8_TYPE_Z8611);
+    saved[PRE0] = 3 * 4 + 1;
+    saved[TMR] = 0x02;
+    saved[Z8_AT_T0_PRESCALER] = 3;
+    for (k = 0; k < 8; k++) {
+        check(sequence[k], saved[Z8_AT_T0_PRESCALER], "z8_span", "11.3.2", "3-2-1-3-2-1-3-2");
+        z8_span(saved, Z8_SAVED_LEN, 4, &ends0, &ends1);
+    }
+}
+
+/* 11.3.2: "the counter/timer will either come to rest with its value at %00 (Single-Pass mode) or the initial
+   value will be automatically reloaded", "IRQ_4 for T_0 and IRQ_5 for T_1". "i = t x p x v" with t four
+   internal clocks. 11.4: "T_OUT toggles to its opposite state". */
+static void check_end_of_count(int repeating)
+{
+    uint32_t ends0, ends1, interval = 4 * 5 * 7;
+
+    new_machine(Z8_TYPE_Z8611);
+    saved[PRE0] = (uint8_t)(5 * 4 + repeating);
+    saved[PRE1] = (uint8_t)(5 * 4 + 2 + repeating);
+    saved[T0] = saved[T1] = 7;
+    saved[TMR] = 0x4A;
+    saved[Z8_AT_T0_PRESCALER] = saved[Z8_AT_T1_PRESCALER] = 5;
+    saved[Z8_AT_T0_COUNTER] = saved[Z8_AT_T1_COUNTER] = 7;
+    z8_span(saved, Z8_SAVED_LEN, interval - 1, &ends0, &ends1);
+    check(0, ends0 + ends1 + saved[IRQ], "z8_span", "11.3.2", "not before i = t x p x v");
+    z8_span(saved, Z8_SAVED_LEN, 1, &ends0, &ends1);
+    check(2, ends0 + ends1, "z8_span", "11.3.2", "i = t x p x v");
+    check(0x30, saved[IRQ], "z8_span", "11.3.2", "IRQ_4 for T_0 and IRQ_5 for T_1");
+    check(0, saved[Z8_AT_T_OUT], "z8_span", "11.4", "T_OUT toggles");
+    check(repeating ? 7 : 0, saved[Z8_AT_T0_COUNTER], "z8_span", "11.3.2", "rest with %00, or reloaded: T0");
+    check(repeating ? 7 : 0, saved[Z8_AT_T1_COUNTER], "z8_span", "11.3.2", "rest with %00, or reloaded: T1");
+    z8_span(saved, Z8_SAVED_LEN, 10 * interval, &ends0, &ends1);
+    check(repeating ? 20 : 0, ends0 + ends1, "z8_span", "11.3.2", "come to rest, or counting will continue");
+}
+
+/* 11.6: T0 continuous and driving T_OUT, which is wired back to T_IN, T1's external clock. "On every other
+   T_0 end-of-count, T_OUT undergoes a High-to-Low transition which causes T_1 to count. [...] Each time T_1's
+   end-of-count is reached, interrupt request IRQ_5 is generated. Interrupt requests IRQ_2 [...] and IRQ_4
+   [...] are also generated". */
+static void check_cascade(const struct engine *engine)
+{
+    unsigned long transitions = 0;
+    int steps;
+
+    new_machine(Z8_TYPE_Z8611);
+    saved[PRE0] = 10 * 4 + 1;
+    saved[T0] = 10;
+    saved[PRE1] = 3 * 4 + 1;
+    saved[T1] = 2;
+    saved[TMR] = 0x4A;
+    saved[Z8_AT_T0_PRESCALER] = saved[Z8_AT_T0_COUNTER] = 10;
+    saved[Z8_AT_T1_PRESCALER] = 3;
+    saved[Z8_AT_T1_COUNTER] = 2;
+    for (steps = 0; steps < 3000; steps++) {
+        uint8_t wire = (uint8_t)(saved[Z8_AT_T_OUT] ? 0xFF : 0xFD);
+
+        transitions += (saved[Z8_AT_PORT3] & 2) && !(wire & 2);
+        engine->step(wire);
+        if (saved[Z8_AT_T_OUT] && all_ends1 > 0) {
+            check(transitions, all_ends0 / 2, engine->name, "11.6", "On every other T_0 end-of-count");
+            check(transitions / 6, all_ends1, engine->name, "11.6", "T_1 counts the transitions");
+        }
+    }
+    check(1, all_ends1 >= 3, engine->name, "11.6", "T_1's end-of-count is reached");
+    check(0x34, saved[IRQ], engine->name, "11.6", "IRQ_5, IRQ_2 and IRQ_4 are generated");
+}
+
+/* 11.5: "Each High-to-Low transition on T_IN generates interrupt request IRQ_2, regardless of the selected
+   T_IN mode or the enabled/disabled state of T_1." 11.5.1: in External Clock Input mode "an event is
+   considered to be a High-to-Low transition on T_IN", and T_1 counts it. */
+static void check_transitions(const struct engine *engine, unsigned mode, unsigned enabled)
+{
+    static const char words[] = "each High-to-Low transition on T_IN";
+    unsigned counted = mode == 0 && enabled;
+
+    new_machine(Z8_TYPE_Z8611);
+    saved[TMR] = (uint8_t)(mode * 0x10 + enabled * 0x08);
+    saved[PRE1] = 10 * 4;
+    saved[Z8_AT_T1_PRESCALER] = 10;
+    engine->step(0xFF);
+    check(0, saved[IRQ], engine->name, "11.5", words);
+    saved[Z8_AT_T1_PRESCALER] = 10; /* what a gate may have let through while it was high */
+    engine->step(0xFD);
+    check(0x04, saved[IRQ], engine->name, "11.5", words);
+    check(10 - counted, saved[Z8_AT_T1_PRESCALER], engine->name, "11.5.1", words);
+    engine->step(0xFD);
+    engine->step(0xFF);
+    saved[Z8_AT_T1_PRESCALER] = (uint8_t)(10 - counted);
+    engine->step(0xFD);
+    check(10 - 2 * counted, saved[Z8_AT_T1_PRESCALER], engine->name, "11.5.1", words);
+}
+
+/* 11.5.2: "T_1 counts while T_IN is High and stops counting while T_IN is Low." Eight NOPs are 48 cycles, so
+   12 ticks. */
+static void check_gate(const struct engine *engine)
+{
+    int k;
+
+    new_machine(Z8_TYPE_Z8611);
+    saved[TMR] = 0x18;
+    saved[PRE1] = 60 * 4;
+    saved[Z8_AT_T1_PRESCALER] = 60;
+    for (k = 0; k < 8; k++) {
+        engine->step(0xFF);
+    }
+    check(60 - 12, saved[Z8_AT_T1_PRESCALER], engine->name, "11.5.2", "T_1 counts while T_IN is High");
+    for (k = 0; k < 8; k++) {
+        engine->step(0xFD);
+    }
+    check(60 - 12, saved[Z8_AT_T1_PRESCALER], engine->name, "11.5.2", "and stops counting while T_IN is Low");
+    check(0x04, saved[IRQ], engine->name, "11.5.2",
+          "IRQ_2 is generated on the High-to-Low transition of T_IN");
+}
+
+static void check_t_in(const struct engine *engine)
+{
+    unsigned mode;
+
+    for (mode = 0; mode < 4; mode++) {
+        check_transitions(engine, mode, 0);
+        check_transitions(engine, mode, 1);
+    }
+    check_gate(engine);
+}
+
+static void print_misprints(void)
+{
+    size_t k;
+
+    for (k = 0; k < sizeof misprints / sizeof misprints[0]; k++) {
+        const struct misprint *m = &misprints[k];
+
+        printf("- %s: \"%s\". Wrong: %s. By the rules: %s.\n", m->where, m->printed, m->wrong, m->rule);
+    }
+}
+
+/* With the word misprints: their list, for the decisions. */
+int main(int argc, char **argv)
+{
+    size_t k;
+
+    if (argc == 2 && strcmp(argv[1], "misprints") == 0) {
+        print_misprints();
+        return 0;
+    }
+    for (k = 0; k < sizeof examples / sizeof examples[0]; k++) {
+        run_example_in_all_ways(&examples[k]);
+    }
+    for (k = 0; k < sizeof misprints / sizeof misprints[0]; k++) {
+        run_example_in_all_ways(&misprints[k].as_ruled);
+    }
+    check_reset();
+    for (k = 0; k < 2; k++) {
+        check_vectors(&engines[k]);
+        check_priorities(&engines[k]);
+        check_cascade(&engines[k]);
+        check_t_in(&engines[k]);
+    }
+    check_prescaler_sequence();
+    check_end_of_count(0);
+    check_end_of_count(1);
+    printf("manual: %lu examples and %lu misprints, %lu checks, %lu failed\n",
+           (unsigned long)(sizeof examples / sizeof examples[0]),
+           (unsigned long)(sizeof misprints / sizeof misprints[0]), checks, failed);
+    return failed != 0;
+}
