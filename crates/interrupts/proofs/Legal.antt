@@ -1,4 +1,5 @@
 -- A legal machine stays legal through compared pins and a grant. Assumes nothing.
+use mathlib.Core.Path.{_≡_}
 use mathlib.Core.Bool.{false}
 use mathlib.Core.List.{List}
 use Prim.Native.Nat.{ℕ, _+_, _-_, _*_, _^_, _≤_, _<_}
@@ -13,14 +14,16 @@ use Rattle.timers.specs.Clock.{LegalMoving, begun, edgeOf}
 use Rattle.timers.specs.declared.Spanned.{Spanned}
 use Rattle.timers.proofs.Legal.{edge-legal}
 use Rattle.timers.proofs.Theorems.{edge-within}
-use Rattle.machine.specs.State.{held}
+use Rattle.machine.specs.State.{held, placed, withPc}
 use Rattle.machine.specs.Clock.{controlOf, movingOf}
 use Rattle.machine.specs.Legal.{Legal}
 use Rattle.machine.specs.declared.Machine.{Machine}
 use Rattle.machine.specs.declared.Bytes.the-variants.{Three}
 use Rattle.machine.proofs.Legal.{irq-fits, placed-legal, pc-legal, last3-legal, moved-legal, setting-of, pushed-legal, program-byte}
+use Rattle.machine.proofs.Whole.{push-keeps}
 use Rattle.deeds.specs.Modes.{flagsOf}
 use Rattle.deeds.proofs.Fits.{AllRead}
+use Rattle.execute.specs.Doing.{interruptsTo}
 use Rattle.execute.proofs.Legal.{FitStores, interrupts-legal, pushed-fits}
 use Rattle.interrupts.specs.Edges.{fell, latchedBy, withIrq, movedByEdges, comparedOf}
 use Rattle.interrupts.specs.Entry.{cleared, vectorOf, acknowledged, enteredOf}
@@ -75,3 +78,8 @@ pub entered-fits : (m : Machine) (image : List ℕ) (n : ℕ) → Legal m → Fi
 unfolding enteredOf
 entered-fits m image n l =
     pushed-fits m (Three (flagsOf m) (highByte (m .pc)) (lowByte (m .pc))) (flags-byte l, (omega (arith, l .pc-word), (omega arith, tt)))
+
+-- and the last pins stay
+pub entered-leaves : (m : Machine) (image : List ℕ) (n : ℕ) → enteredOf image m n .machine .last3 ≡ m .last3
+unfolding enteredOf acknowledged interruptsTo placed withPc
+entered-leaves m image n = push-keeps m (Three (flagsOf m) (highByte (m .pc)) (lowByte (m .pc))) .last3-kept

@@ -7,7 +7,7 @@ use lib.Bits.{bitAnd}
 use lib.Dec.{eqb}
 use lib.ListN.{length}
 use Rattle.word.specs.Fields.{isSet}
-use Rattle.word.proofs.Computed.{agree3}
+use Rattle.word.proofs.Computed.{agree, agree3}
 use Rattle.timers.specs.Clock.{begun}
 use Rattle.machine.specs.State.{held, placed, withLast3}
 use Rattle.machine.specs.Clock.{movingOf, movedTo, countsAt}
@@ -56,6 +56,20 @@ pub steady : (m : Machine) (given : ℕ) → held m 0xF1 < 256 → anyFell (m .l
     → _≡_ {A = Comparison} (record { machine = withLast3 m given; ends1 = 0 }) (comparedOf m given)
 unfolding comparedOf
 steady m given h e = rw (nothing-moved m given e, put-own m h)
+
+-- and pins that are the last already change nothing
+same-steady : (x : ℕ) → anyFell x x ≡ false
+unfolding anyFell
+same-steady x = agree (λ i. not (eqb (bitAnd i (15 - i)) 0)) (λ i. false) 16 refl (x % 16) (omega arith)
+
+pub compared-again : (m : Machine) (given : ℕ) → held m 0xF1 < 256 → m .last3 ≡ given → comparedOf m given ≡ record { machine = m; ends1 = 0 }
+unfolding withLast3
+compared-again m given h e = rw (← e) (sym (steady m (m .last3) h (same-steady (m .last3))))
+
+-- after which they are the last
+pub compared-last : (m : Machine) (given : ℕ) → comparedOf m given .machine .last3 ≡ given
+unfolding comparedOf withLast3
+compared-last m given = refl
 
 -- IRQ then
 pub requests-seen : (m : Machine) (given : ℕ) → length (m .regs) ≡ 256 → held m 0xF1 < 256

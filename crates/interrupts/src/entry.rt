@@ -27,7 +27,8 @@ fn vector(image: &[u8], n: u8) -> u16
     word::word(hi, lo)
 }
 
-// Request n entered: PC and FLAGS are pushed, then the request and IMR's bit 7 are cleared, also in bytes just pushed there.
+// Request n entered: PC and FLAGS are pushed, then the request and IMR's bit 7 are cleared, also in bytes just pushed there. What the push
+// leaves is put together from parts (see `machine::registers::write`): so a run's type, entry cost and last pins are known to stay.
 pub fn enter(regs: &mut [u8; 256], k: Core, image: &[u8], n: u8) -> Pushed
     requires { ⌜ n < 6 ⌝ }
     ensures { λ r. ⌜ stackedOf (now (regs .exit)) r ≡ enteredOf (now (image .entry)) (whole (now (regs .entry)) k) n ⌝ }
@@ -38,8 +39,9 @@ pub fn enter(regs: &mut [u8; 256], k: Core, image: &[u8], n: u8) -> Pushed
     let to = vector(image, n);
     let b = Bytes::Three(flags, hi, lo);
     let p = machine::stack::push(regs, k, b);
-    let pushed = p.k;
+    let moved = p.k;
     let stores = p.stores;
+    let pushed = machine::keeping(k, moved);
     let irq = machine::registers::held(regs, 0xFA);
     let fewer = cleared(n, irq);
     machine::registers::place(regs, 0xFA, fewer);

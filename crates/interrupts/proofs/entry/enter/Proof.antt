@@ -8,6 +8,7 @@ use Rattle.execute.proofs.doing.interrupts.Reads as interrupts-reads
 use Rattle.interrupts.proofs.entry.cleared.Reads as cleared-reads
 use Rattle.interrupts.proofs.entry.vector.Reads as vector-reads
 use Rattle.machine.proofs.at_pc.Reads as at-pc-reads
+use Rattle.machine.proofs.keeping.Reads as keeping-reads
 use Rattle.machine.proofs.registers.held.Reads as held-reads
 use Rattle.machine.proofs.registers.place.Reads as place-reads
 use Rattle.machine.proofs.stack.push.Reads as push-reads
@@ -15,9 +16,11 @@ use Rattle.word.proofs.high_byte.Reads as high-byte-reads
 use Rattle.word.proofs.low_byte.Reads as low-byte-reads
 use Rattle.interrupts.specs.Entry.{cleared, enteredOf, acknowledged}
 use mathlib.Core.Path.{ap}
+use denote.Ref.{now}
 use Rattle.machine.specs.State.{heldIn}
+use Rattle.machine.specs.declared.Bytes.the-variants.{Three}
 use Rattle.machine.specs.Stack.{Stacked}
-use Rattle.machine.proofs.Whole.{placed-is, pc-is}
+use Rattle.machine.proofs.Whole.{placed-is, pc-is, push-is}
 
 flags-requires : tie.Need-flags-requires
 flags-requires c κs = search needs
@@ -33,6 +36,9 @@ vector-requires c κs = search needs
 
 push-requires : tie.Need-push-requires
 push-requires c κs = search needs
+
+keeping-requires : tie.Need-keeping-requires
+keeping-requires c κs = search needs
 
 held-requires : tie.Need-held-requires
 held-requires c κs = search needs
@@ -51,7 +57,20 @@ at-pc-requires c κs = search needs
 
 returns : tie.Need-returns
 unfolding enteredOf acknowledged
-returns c = let p = rw (c .before .before .before .before .before .before .before .before .before .before .before .before .before .before .flags .ensures, c .before .before .before .before .before .before .before .before .before .before .before .before .before .high-byte .ensures, c .before .before .before .before .before .before .before .before .before .before .before .before .low-byte .ensures) at (c .before .before .before .before .before .before .before .before .before .push .ensures) in rw (c .at-pc .ensures, pc-is _ (c .before .interrupts .ensures), c .before .before .before .place .ensures, c .before .before .before .before .before .cleared .ensures, c .before .before .before .before .before .before .held .ensures, placed-is 0xFA (cleared (c .before .before .before .before .before .before .before .before .before .before .before .before .before .before .before .before .before .args .n) (heldIn (c .before .before .before .before .before .before .before .before .before .push .last .0) 0xFA)) (ap (λ (s : Stacked). s .machine) p), ap (λ (s : Stacked). heldIn (s .machine .regs) 0xFA) p, ap (λ (s : Stacked). s .stores) p, c .before .before .before .before .before .before .before .before .before .before .before .vector .ensures)
+returns c =
+    let p = push-is (now (c .before .before .before .before .before .before .before .before .before .before .before .before .before .before .before .before .before .before .args .regs)) (c .before .before .before .before .before .before .before .before .before .before .before .before .before .before .before .before .before .before .args .k) _ (rw (c .before .before .before .before .before .before .before .before .before .before .before .before .before .before .before .flags .ensures, c .before .before .before .before .before .before .before .before .before .before .before .before .before .before .high-byte .ensures, c .before .before .before .before .before .before .before .before .before .before .before .before .before .low-byte .ensures) at (c .before .before .before .before .before .before .before .before .before .before .push .ensures)) in
+    rw (
+      c .at-pc .ensures,
+      pc-is _ (c .before .interrupts .ensures),
+      c .before .before .before .place .ensures,
+      c .before .before .before .before .before .cleared .ensures,
+      c .before .before .before .before .before .before .held .ensures,
+      c .before .before .before .before .before .before .before .before .keeping .ensures,
+      placed-is 0xFA (cleared (c .before .before .before .before .before .before .before .before .before .before .before .before .before .before .before .before .before .before .args .n) (heldIn (c .before .before .before .before .before .before .before .before .before .before .push .last .0) 0xFA)) (ap (λ (s : Stacked). s .machine) p),
+      ap (λ (s : Stacked). heldIn (s .machine .regs) 0xFA) p,
+      ap (λ (s : Stacked). s .stores) p,
+      c .before .before .before .before .before .before .before .before .before .before .before .before .vector .ensures,
+    )
 
 pub enter-spec : {M : Type 1} → statement M
 enter-spec =
@@ -62,6 +81,7 @@ enter-spec =
     low-byte-requires
     vector-requires
     push-requires
+    keeping-requires
     held-requires
     cleared-requires
     place-requires
