@@ -1,28 +1,38 @@
--- What is done, by what is granted and by the map's entry; and what of it is known where the code needs it. Assumes nothing.
-use mathlib.Core.Path.{_≡_, refl, ap, sym, _∙_}
+-- What is done, by what is granted and by the map's entry; and what it comes to where the pins given are the last already. Assumes nothing.
+use mathlib.Core.Path.{_≡_, refl, ap, sym, _∙_, subst}
+use mathlib.Core.Bool.{Bool, true, false}
 use mathlib.Core.List.{List, [], _∷_}
-use Prim.Native.Nat.{ℕ, zero, suc, _≤_, _<_}
-use native.Mathlib.Nat.{le-trans}
+use Prim.Native.Nat.{ℕ, zero, suc, _+_, _<_}
+use native.Mathlib.Nat.{zero-add}
 use native.Mathlib.Omega.{arith}
+use borrow.Author.Tests.{ne-eqb}
+use lib.Dec.{T, eqb}
 use lib.ListN.{getD}
+use Rattle.word.proofs.Computed.{by-test}
 use Rattle.opcodes.specs.Map.{entryOf}
+use Rattle.opcodes.specs.declared.Entry.{Entry}
 use Rattle.opcodes.specs.declared.Entry.the-variants as entry
 use Rattle.opcodes.specs.declared.Kind.{Kind}
 use Rattle.machine.specs.State.{held}
-use Rattle.machine.specs.Clock.{spanOf}
+use Rattle.machine.specs.Memory.{programByte, storedIn}
+use Rattle.machine.specs.Clock.{Ran, spanOf}
 use Rattle.machine.specs.Legal.{Legal}
 use Rattle.machine.specs.declared.Machine.{Machine}
 use Rattle.machine.specs.declared.Pins.{Pins}
-use Rattle.machine.proofs.Lens.{span-within}
+use Rattle.machine.proofs.Whole.{span-last3}
 use Rattle.deeds.proofs.Fits.{AllRead}
-use Rattle.execute.specs.Execute.{codeAt, refusedOf, performOf, executeAs, executeOf}
-use Rattle.interrupts.specs.Edges.{comparedOf}
+use Rattle.execute.specs.Execute.{Execution, refusedOf, codeAt, performOf, executeAs, executeOf}
+use Rattle.execute.proofs.Theorems.{undefined-refused, defined-done}
+use Rattle.execute.proofs.Last3.{execute-leaves}
+use Rattle.interrupts.specs.Edges.{Comparison, comparedOf}
 use Rattle.interrupts.specs.Grants.{granted, grantOf}
+use Rattle.interrupts.specs.declared.grants.Grant.{Grant}
 use Rattle.interrupts.specs.declared.grants.Grant.the-variants as grant
-use Rattle.interrupts.proofs.Steady.{compared-leaves}
-use Rattle.step.specs.Step.{Action, grantedOr, actOn, actionOf, performedOn, instructed, enteredOn}
-use Rattle.step.proofs.Good.{Act}
-use Rattle.step.proofs.Good.Act.{refused, done}
+use Rattle.interrupts.proofs.Steady.{compared-leaves, compared-again, compared-last}
+use Rattle.interrupts.proofs.Legal.{entered-leaves}
+use Rattle.step.specs.Step.{Progress, Action, grantedOr, actOn, actionOf, clockedOn, stepOf}
+use Rattle.step.specs.Run.{nothingDone}
+use Rattle.step.proofs.Good.{unclocked}
 
 -- the bytes of a slice, read past its end too
 pub read-any : (l : List ℕ) → ((i : ℕ) → getD l i 0 < 256) → AllRead l
@@ -43,42 +53,102 @@ module _ (p : Pins) (image mem : List ℕ) (m : Machine) (l : Legal m) where
       executed-at p image mem (comparedOf m (p .port3) .machine) (m .pc)
       (compared-leaves m (p .port3) (l .file .long) (l .file .bytes 0xF1) .pc-left)
 
-  pub blank-refused : entryOf (codeAt image (m .pc) .op) ≡ entry.Blank → instructed p image mem m ≡ record { done = refusedOf m; ends1 = 0 }
-  unfolding instructed actOn executeAs
-  blank-refused e = rw (at-same, e)
+  pub blank-refused : grantOf (comparedOf m (p .port3) .machine) ≡ grant.Nothing → entryOf (codeAt image (m .pc) .op) ≡ entry.Blank
+      → actionOf p image mem m ≡ record { done = refusedOf m; ends1 = 0 }
+  unfolding actionOf grantedOr actOn executeAs
+  blank-refused g e = rw (g, at-same, e)
 
-  pub kind-performed : {k : Kind} → entryOf (codeAt image (m .pc) .op) ≡ entry.Of k
-      → instructed p image mem m ≡ performedOn p image mem (comparedOf m (p .port3)) k (codeAt image (m .pc))
-  unfolding instructed actOn executeAs performedOn performOf
-  kind-performed e = rw (at-same, e)
+  pub kind-taken : {k : Kind} → grantOf (comparedOf m (p .port3) .machine) ≡ grant.Nothing → entryOf (codeAt image (m .pc) .op) ≡ entry.Of k
+      → actionOf p image mem m .done .refusal ≡ 0
+  unfolding actionOf grantedOr actOn executeAs performOf
+  kind-taken g e = rw (g, at-same, e)
 
-  -- what is granted is told by IMR and IPR as they stand
-  pub granted-is : granted (held (comparedOf m (p .port3) .machine) 0xFA) (held m 0xFB) (held m 0xF9) ≡ grantOf (comparedOf m (p .port3) .machine)
-  unfolding grantOf
-  granted-is =
-      let left = compared-leaves m (p .port3) (l .file .long) (l .file .bytes 0xF1) in
-      rw (left .place-left 0xFB (omega arith) (omega arith), left .place-left 0xF9 (omega arith) (omega arith))
+  pub request-taken : {n : ℕ} → grantOf (comparedOf m (p .port3) .machine) ≡ grant.Request n → actionOf p image mem m .done .refusal ≡ 0
+  unfolding actionOf grantedOr actOn
+  request-taken g = rw g
 
-  pub nothing-granted : grantOf (comparedOf m (p .port3) .machine) ≡ grant.Nothing → instructed p image mem m ≡ actionOf p image mem m
-  unfolding instructed actionOf grantedOr
-  nothing-granted e = rw e
+-- what is granted is told by IMR and IPR as they stand
+pub granted-is : (p : Pins) (m : Machine) → Legal m
+    → granted (held (comparedOf m (p .port3) .machine) 0xFA) (held m 0xFB) (held m 0xF9) ≡ grantOf (comparedOf m (p .port3) .machine)
+unfolding grantOf
+granted-is p m l =
+    let left = compared-leaves m (p .port3) (l .file .long) (l .file .bytes 0xF1) in
+    rw (left .place-left 0xFB (omega arith) (omega arith), left .place-left 0xF9 (omega arith) (omega arith))
 
-  pub request-granted : {n : ℕ} → grantOf (comparedOf m (p .port3) .machine) ≡ grant.Request n
-      → enteredOn image (comparedOf m (p .port3)) n ≡ actionOf p image mem m
-  unfolding actionOf grantedOr actOn enteredOn
-  request-granted e = rw e
+-- ---- on pins that are the last already
+module _ (p : Pins) (image mem : List ℕ) (m : Machine) where
+  -- what is done
+  abbrev pub doneOn : Execution
+  doneOn = grantedOr p image mem m (grantOf m)
 
--- of what is done: a legal machine, and T1's ends by an edge
-pub act-legal : {m : Machine} {a : Action} → Legal m → Act m a → Legal (a .done .machine)
-act-legal l (refused e) = rw e l
-act-legal l (done d low high few sound) = sound .legal
+  executed-refused : eqb (executeOf p image mem m .refusal) 0 ≡ false → refusedOf m ≡ executeOf p image mem m
+  executed-refused t = go (entryOf (programByte image (m .pc))) refl
+    where
+      go : (e : Entry) → entryOf (programByte image (m .pc)) ≡ e → refusedOf m ≡ executeOf p image mem m
+      go entry.Blank e = sym (undefined-refused p image mem m e)
+      go (entry.Of k) e = let d : eqb (executeOf p image mem m .refusal) 0 ≡ true = rw (defined-done p image mem m e) in absurd (subst T (sym d ∙ t) tt)
 
-pub act-ends : {m : Machine} {a : Action} → Act m a → a .ends1 ≤ 1
-act-ends (refused e) = rw e (omega arith)
-act-ends (done d low high few sound) = few
+  -- where it is refused, it is nothing at all
+  pub refused-is : (g : Grant) → eqb (grantedOr p image mem m g .refusal) 0 ≡ false → refusedOf m ≡ grantedOr p image mem m g
+  unfolding grantedOr
+  refused-is grant.Nothing t = executed-refused t
+  refused-is (grant.Request n) t = absurd (subst T t tt)
 
--- and in the cycles that it costs T1 ends a few times at most
-pub act-clock : {m : Machine} {a : Action} → Legal m → Act m a → spanOf (a .done .cycles) (a .done .machine) .ends1 ≤ 63
-act-clock {m} l (refused e) = rw e (le-trans (span-within m (l .file .long) (l .file .bytes 0xF1) 0 .1) (omega arith))
-act-clock {a = a} l (done d low high few sound) =
-    le-trans (span-within (a .done .machine) (sound .legal .file .long) (sound .legal .file .bytes 0xF1) (a .done .cycles) .1) high
+  module _ (l : Legal m) (e : m .last3 ≡ p .port3) where
+    again : comparedOf m (p .port3) ≡ record { machine = m; ends1 = 0 }
+    again = compared-again m (p .port3) (l .file .bytes 0xF1) e
+
+    pub action-is : actionOf p image mem m ≡ record { done = doneOn; ends1 = 0 }
+    unfolding actionOf actOn
+    action-is =
+        rw again
+        (by-test (λ (a : Action). _≡_ {A = Action} a (record { done = doneOn; ends1 = 0 })) (eqb (doneOn .refusal) 0)
+        (λ t. refl)
+        (λ t. ap (λ (x : Execution). record { done = x; ends1 = 0 }) (refused-is (grantOf m) t)))
+
+    -- a step, as the code has it: x is what was done, r the machine after the clock
+    module _ (x : Execution) (i : x ≡ doneOn) where
+      clocked : stepOf p image mem m ≡ clockedOn m mem (record { done = x; ends1 = 0 })
+      unfolding stepOf
+      clocked = ap (clockedOn m mem) (action-is ∙ ap (λ (y : Execution). record { done = y; ends1 = 0 }) (sym i))
+
+      pub step-refused : (x .refusal ≡ 0 → ⊥)
+          → _≡_ {A = Progress} (record { refusal = x .refusal; cycles = 0; ends0 = 0; ends1 = 0; machine = x .machine; memory = mem }) (stepOf p image mem m)
+      step-refused d =
+          let same : refusedOf m ≡ x = refused-is (grantOf m) (ap (λ (y : Execution). eqb (y .refusal) 0) (sym i) ∙ ne-eqb (x .refusal) 0 d) ∙ sym i in
+          ap (λ (y : Execution). record { refusal = y .refusal; cycles = 0; ends0 = 0; ends1 = 0; machine = y .machine; memory = mem }) (sym same)
+          ∙ sym (clocked ∙ ap (λ (y : Execution). clockedOn m mem (record { done = y; ends1 = 0 })) (sym same) ∙ unclocked m mem)
+
+      pub step-taken : (r : Ran) → x .refusal ≡ 0 → r ≡ spanOf (x .cycles) (x .machine)
+          → _≡_ {A = Progress} (record { refusal = 0; cycles = x .cycles; ends0 = r .ends0; ends1 = r .ends1; machine = r .machine; memory = storedIn (m .kind) mem (x .stores) })
+          (stepOf p image mem m)
+      unfolding clockedOn
+      step-taken r d s = rw (clocked, s, zero-add (spanOf (x .cycles) (x .machine) .ends1), d)
+
+-- ---- the last pins
+-- what is done on compared pins, where it is not refused
+pub action-taken : (p : Pins) (image mem : List ℕ) (m : Machine) → actionOf p image mem m .done .refusal ≡ 0
+    → actionOf p image mem m ≡ record { done = doneOn p image mem (comparedOf m (p .port3) .machine); ends1 = comparedOf m (p .port3) .ends1 }
+unfolding actionOf actOn
+action-taken p image mem m d =
+    let c = comparedOf m (p .port3) in
+    let x = doneOn p image mem (c .machine) in
+    by-test (λ (a : Action). a .done .refusal ≡ 0 → _≡_ {A = Action} a (record { done = x; ends1 = c .ends1 })) (eqb (x .refusal) 0)
+    (λ t z. refl)
+    (λ t z. absurd (omega (arith, z)))
+    d
+
+-- what is done leaves them
+pub done-leaves : (p : Pins) (image mem : List ℕ) (m : Machine) (g : Grant) → grantedOr p image mem m g .machine .last3 ≡ m .last3
+unfolding grantedOr
+done-leaves p image mem m grant.Nothing = execute-leaves p image mem m
+done-leaves p image mem m (grant.Request n) = entered-leaves m image n
+
+-- so after a step that is not refused they are those given
+pub step-last : (p : Pins) (image mem : List ℕ) (m : Machine) → stepOf p image mem m .refusal ≡ 0 → stepOf p image mem m .machine .last3 ≡ p .port3
+unfolding stepOf clockedOn
+step-last p image mem m d =
+    let c = comparedOf m (p .port3) in
+    let x = doneOn p image mem (c .machine) in
+    rw (action-taken p image mem m d)
+    (span-last3 (x .cycles) (x .machine) ∙ done-leaves p image mem (c .machine) (grantOf (c .machine)) ∙ compared-last m (p .port3))

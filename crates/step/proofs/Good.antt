@@ -77,7 +77,7 @@ module _ (p : Pins) (image mem : List ℕ) where
   granted-costs m (grant.Request n) l all =
       λ d. (leb→le 6 (m .cost) (and-left (leb 6 (m .cost)) (leb (m .cost) 63) (l .cost)), leb→le (m .cost) 63 (and-right (leb 6 (m .cost)) (leb (m .cost) 63) (l .cost)))
 
-  granted-sound : (m : Machine) (g : Grant) → Legal m → LegalPins p → AllRead image → AllRead mem → Sound (grantedOr p image mem m g)
+  pub granted-sound : (m : Machine) (g : Grant) → Legal m → LegalPins p → AllRead image → AllRead mem → Sound (grantedOr p image mem m g)
   unfolding grantedOr
   granted-sound m grant.Nothing l lp li lm = execute-sound p image mem m l lp li lm
   granted-sound m (grant.Request n) l lp li lm = record { legal = entered-legal image n l li; fit = entered-fits m image n l }

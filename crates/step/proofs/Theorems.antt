@@ -17,16 +17,18 @@ use Rattle.machine.specs.declared.Pins.{Pins}
 use Rattle.machine.proofs.Legal.{LegalPins}
 use Rattle.deeds.proofs.Fits.{AllRead}
 use Rattle.opcodes.specs.Map.{entryOf}
+use Rattle.opcodes.specs.Instruction.{defined}
+use Rattle.opcodes.specs.declared.Entry.{Entry}
 use Rattle.opcodes.specs.declared.Entry.the-variants as entry
 use Rattle.opcodes.specs.declared.Kind.{Kind}
 use Rattle.machine.specs.Memory.{programByte}
-use Rattle.execute.specs.Execute.{codeAt, performOf}
+use Rattle.execute.specs.Execute.{codeAt}
 use Rattle.interrupts.specs.Edges.{comparedOf}
 use Rattle.interrupts.specs.Grants.{grantOf}
 use Rattle.interrupts.specs.declared.grants.Grant.the-variants as grant
-use Rattle.step.specs.Step.{Progress, Action, clockedOn, performedOn, enteredOn, stepOf}
+use Rattle.step.specs.Step.{Progress, clockedOn, stepOf}
 use Rattle.step.specs.Run.{nothingDone, further, goesOn, oneMore, stepsOf, budgetLimit, runOf}
-use Rattle.step.proofs.Acts.{blank-refused, kind-performed, nothing-granted, request-granted}
+use Rattle.step.proofs.Acts.{blank-refused, kind-taken, request-taken}
 use Rattle.step.proofs.Good.{Taken, Good, unclocked, step-good}
 use Rattle.step.proofs.Good.Good.{refused, taken}
 
@@ -136,16 +138,33 @@ module _ (p : Pins) (image mem : List ℕ) (m : Machine) (l : Legal m) where
   pub undefined-refused : grantOf (comparedOf m (p .port3) .machine) ≡ grant.Nothing → entryOf (programByte image (m .pc)) ≡ entry.Blank
       → stepOf p image mem m ≡ nothingDone 5 m mem
   unfolding stepOf codeAt
-  undefined-refused g e = ap (clockedOn m mem) (sym (nothing-granted p image mem m l g) ∙ blank-refused p image mem m l e) ∙ unclocked m mem
+  undefined-refused g e = ap (clockedOn m mem) (blank-refused p image mem m l g e) ∙ unclocked m mem
 
   pub defined-taken : {k : Kind} → grantOf (comparedOf m (p .port3) .machine) ≡ grant.Nothing → entryOf (programByte image (m .pc)) ≡ entry.Of k
       → stepOf p image mem m .refusal ≡ 0
-  unfolding stepOf clockedOn codeAt performedOn performOf
-  defined-taken g e = ap (λ (a : Action). a .done .refusal) (sym (nothing-granted p image mem m l g) ∙ kind-performed p image mem m l e)
+  unfolding stepOf clockedOn codeAt
+  defined-taken g e = kind-taken p image mem m l g e
 
   pub granted-taken : {n : ℕ} → grantOf (comparedOf m (p .port3) .machine) ≡ grant.Request n → stepOf p image mem m .refusal ≡ 0
-  unfolding stepOf clockedOn enteredOn
-  granted-taken g = ap (λ (a : Action). a .done .refusal) (sym (request-granted p image mem m l g))
+  unfolding stepOf clockedOn
+  granted-taken g = request-taken p image mem m l g
+
+  -- the same, told by whether the opcode is defined
+  pub told-refused : grantOf (comparedOf m (p .port3) .machine) ≡ grant.Nothing → defined (entryOf (programByte image (m .pc))) ≡ false
+      → stepOf p image mem m ≡ nothingDone 5 m mem
+  told-refused g d = go (entryOf (programByte image (m .pc))) refl
+    where
+      go : (e : Entry) → entryOf (programByte image (m .pc)) ≡ e → stepOf p image mem m ≡ nothingDone 5 m mem
+      go entry.Blank e = undefined-refused g e
+      go (entry.Of k) e = absurd (subst T (sym (ap defined e) ∙ d) tt)
+
+  pub told-taken : grantOf (comparedOf m (p .port3) .machine) ≡ grant.Nothing → defined (entryOf (programByte image (m .pc))) ≡ true
+      → stepOf p image mem m .refusal ≡ 0
+  told-taken g d = go (entryOf (programByte image (m .pc))) refl
+    where
+      go : (e : Entry) → entryOf (programByte image (m .pc)) ≡ e → stepOf p image mem m .refusal ≡ 0
+      go entry.Blank e = absurd (subst T (sym d ∙ ap defined e) tt)
+      go (entry.Of k) e = defined-taken g e
 
 -- "Budget 0 changes nothing", whatever the pins
 pub run-nothing : (p : Pins) (image mem : List ℕ) (m : Machine) → runOf p image mem m 0 ≡ nothingDone 0 m mem

@@ -9,38 +9,53 @@ use lib.Dec.{eqb, ltb}
 use borrow.Author.Tests.{lt-ltb, le-ltb}
 use Rattle.timers.specs.Iter.{iter}
 use Rattle.timers.proofs.Iterate.{iter-zero, iter-one, iter-suc, iter-split, iter-fixed}
+use Rattle.machine.specs.Clock.{spanOf}
 use Rattle.machine.specs.Legal.{Legal}
 use Rattle.machine.specs.declared.Machine.{Machine}
 use Rattle.machine.specs.declared.Pins.{Pins}
 use Rattle.machine.proofs.Legal.{LegalPins}
 use Rattle.deeds.proofs.Fits.{AllRead}
-use Rattle.step.specs.Step.{Progress, stepOf}
-use Rattle.step.specs.Run.{nothingDone, further, goesOn, oneMore, stepsOf}
+use Rattle.execute.specs.Execute.{Execution}
+use Rattle.interrupts.specs.Edges.{Comparison, comparedOf}
+use Rattle.interrupts.proofs.Steady.{compared-leaves, compared-last}
+use Rattle.interrupts.proofs.Legal.{compared-legal}
+use Rattle.step.specs.Step.{Progress, clockedOn, stepOf}
+use Rattle.step.specs.Run.{nothingDone, further, goesOn, oneMore, stepsOf, runOf}
 use Rattle.step.proofs.Good.{Taken, Good, step-good}
+use Rattle.step.proofs.Acts.{doneOn, action-is, action-taken, step-last}
 use Rattle.step.proofs.Good.Good.{refused, taken}
 
-module _ (p : Pins) (image mem₀ : List ℕ) (m₀ : Machine) (budget : ℕ) where
+-- no step taken yet, the pins compared, and T1's ends by that
+abbrev pub comparedFirst : ℕ → Machine → List ℕ → Progress
+comparedFirst ends1 m mem = record { refusal = 0; cycles = 0; ends0 = 0; ends1 = ends1; machine = m; memory = mem }
+
+module _ (p : Pins) (image mem₀ : List ℕ) (m₀ : Machine) (ends1₀ budget : ℕ) where
   abbrev turn : Progress → Progress
   turn = oneMore p image budget
 
   abbrev begin : Progress
-  begin = nothingDone 0 m₀ mem₀
+  begin = comparedFirst ends1₀ m₀ mem₀
 
-  -- so far: it has come by so many turns, none of them refused
+  -- all turns
+  abbrev pub allTurns : Progress
+  allTurns = iter budget (oneMore p image budget) (comparedFirst ends1₀ m₀ mem₀)
+
+  -- so far: it has come by so many turns, none of them refused, and the pins given are the last
   pub record SoFar (r : Progress) : Type 0 where
     pub turns : ℕ
-    pub come : r ≡ iter turns (oneMore p image budget) (nothingDone 0 m₀ mem₀)
+    pub come : r ≡ iter turns (oneMore p image budget) (comparedFirst ends1₀ m₀ mem₀)
     pub not-refused : r .refusal ≡ 0
     pub turns-few : turns ≤ r .cycles
     pub turns-within : turns ≤ budget
     pub cycles-within : r .cycles ≤ budget + 62
     pub ends0-few : r .ends0 ≤ r .cycles
-    pub ends1-few : r .ends1 ≤ 2 * r .cycles
+    pub ends1-few : r .ends1 ≤ 2 * r .cycles + 1
+    pub compared : r .machine .last3 ≡ p .port3
     pub legal : Legal (r .machine)
     pub bytes : AllRead (r .memory)
 
-  pub at-first : Legal m₀ → AllRead mem₀ → SoFar (nothingDone 0 m₀ mem₀)
-  at-first l lm =
+  pub at-first : Legal m₀ → m₀ .last3 ≡ p .port3 → ends1₀ ≤ 1 → AllRead mem₀ → SoFar (comparedFirst ends1₀ m₀ mem₀)
+  at-first l same few lm =
       record {
         turns = 0;
         come = sym (iter-zero turn begin);
@@ -49,7 +64,8 @@ module _ (p : Pins) (image mem₀ : List ℕ) (m₀ : Machine) (budget : ℕ) wh
         turns-within = omega arith;
         cycles-within = omega arith;
         ends0-few = omega arith;
-        ends1-few = omega arith;
+        ends1-few = omega (arith, few);
+        compared = same;
         legal = l;
         bytes = lm;
       }
@@ -74,13 +90,13 @@ module _ (p : Pins) (image mem₀ : List ℕ) (m₀ : Machine) (budget : ℕ) wh
         cycles-within = omega (arith, h, t .costs-high);
         ends0-few = omega (arith, f .ends0-few, t .ends0-few);
         ends1-few = omega (arith, f .ends1-few, t .ends1-few, low);
+        compared = step-last p image (r .memory) (r .machine) (t .not-refused);
         legal = t .legal;
         bytes = t .bytes;
       }
 
   -- all turns, where further ones change nothing
-  settled : {r : Progress} (k : ℕ) → k ≤ budget → r ≡ iter k turn begin → oneMore p image budget r ≡ r → r ≡ stepsOf p image mem₀ m₀ budget
-  unfolding stepsOf
+  settled : {r : Progress} (k : ℕ) → k ≤ budget → r ≡ iter k turn begin → oneMore p image budget r ≡ r → r ≡ allTurns
   settled {r} k h e fixed =
       sym
       (iter-split turn budget (budget - k) k (omega arith) begin
@@ -92,7 +108,7 @@ module _ (p : Pins) (image mem₀ : List ℕ) (m₀ : Machine) (budget : ℕ) wh
   unfolding oneMore goesOn
   rests r h = let t : ltb (r .cycles) budget ≡ false = le-ltb (r .cycles) budget h in rw (t, and-false (eqb (r .refusal) 0))
 
-  pub reached : {r : Progress} → SoFar r → budget ≤ r .cycles → r ≡ stepsOf p image mem₀ m₀ budget
+  pub reached : {r : Progress} → SoFar r → budget ≤ r .cycles → r ≡ allTurns
   reached {r} f h = settled (f .turns) (f .turns-within) (f .come) (rests r h)
 
   -- a step is refused
@@ -107,7 +123,7 @@ module _ (p : Pins) (image mem₀ : List ℕ) (m₀ : Machine) (budget : ℕ) wh
   nothing-more r = rw (add-zero (r .cycles), add-zero (r .ends0), add-zero (r .ends1))
 
   pub stopped : {r : Progress} → SoFar r → r .cycles < budget → stepOf p image (r .memory) (r .machine) ≡ nothingDone 5 (r .machine) (r .memory)
-      → stoppedAt r ≡ stepsOf p image mem₀ m₀ budget
+      → stoppedAt r ≡ allTurns
   stopped {r} f h e =
       let few = f .turns-few in
       settled (suc (f .turns)) (omega (arith, few, h))
@@ -139,21 +155,84 @@ module _ (p : Pins) (image mem₀ : List ℕ) (m₀ : Machine) (budget : ℕ) wh
         (subst (λ (x : Progress). SoFar (further r x)) (sym e) (further-on f h (subst Taken e t)))
 
     pub was-refused : (s .refusal ≡ 0 → ⊥)
-        → _≡_ {A = Progress} (record { refusal = s .refusal; cycles = r .cycles; ends0 = r .ends0; ends1 = r .ends1; machine = s .machine; memory = s .memory }) (stepsOf p image mem₀ m₀ budget)
+        → _≡_ {A = Progress} (record { refusal = s .refusal; cycles = r .cycles; ends0 = r .ends0; ends1 = r .ends1; machine = s .machine; memory = s .memory }) allTurns
     was-refused d = go good
       where
         go : Good (r .machine) (r .memory) (stepOf p image (r .memory) (r .machine))
-            → _≡_ {A = Progress} (record { refusal = s .refusal; cycles = r .cycles; ends0 = r .ends0; ends1 = r .ends1; machine = s .machine; memory = s .memory }) (stepsOf p image mem₀ m₀ budget)
+            → _≡_ {A = Progress} (record { refusal = s .refusal; cycles = r .cycles; ends0 = r .ends0; ends1 = r .ends1; machine = s .machine; memory = s .memory }) allTurns
         go (refused x) =
             ap (λ (y : Progress). record { refusal = y .refusal; cycles = r .cycles; ends0 = r .ends0; ends1 = r .ends1; machine = y .machine; memory = y .memory }) (e ∙ x)
             ∙ stopped f h x
         go (taken t) = absurd (d (ap (λ (y : Progress). y .refusal) e ∙ t .not-refused))
 
+-- a run whose first step is refused
+pub refused-first : (p : Pins) (image mem : List ℕ) (m : Machine) (budget : ℕ) → 0 < budget → stepOf p image mem m ≡ nothingDone 5 m mem
+    → nothingDone 5 m mem ≡ stepsOf p image mem m budget
+unfolding stepsOf
+refused-first p image mem m budget h e =
+    let f = oneMore p image budget in
+    let b = nothingDone 0 m mem in
+    settled p image mem m 0 budget 1 (omega (arith, h))
+    (nothing-more p image mem m 0 budget b
+    ∙ ap (further b) (sym e)
+    ∙ sym (goes p image mem m 0 budget b refl h)
+    ∙ sym (iter-one f b))
+    (stays p image mem m 0 budget b)
+
+-- Compared before the first step or with it, it is the same run: where the first step is not refused, T1's ends by the edges are told apart
+-- from those of the clock.
+module _ (p : Pins) (image mem : List ℕ) (m : Machine) (l : Legal m) (lp : LegalPins p) where
+  abbrev seen : Comparison
+  seen = comparedOf m (p .port3)
+
+  abbrev done : Execution
+  done = doneOn p image mem (seen .machine)
+
+  from-before : stepOf p image mem m .refusal ≡ 0 → stepOf p image mem m ≡ clockedOn m mem (record { done = done; ends1 = seen .ends1 })
+  unfolding stepOf clockedOn
+  from-before d = ap (clockedOn m mem) (action-taken p image mem m d)
+
+  from-compared : stepOf p image mem (seen .machine) ≡ clockedOn (seen .machine) mem (record { done = done; ends1 = 0 })
+  unfolding stepOf
+  from-compared =
+      ap (clockedOn (seen .machine) mem)
+      (action-is p image mem (seen .machine) (compared-legal (p .port3) l (lp .port3-byte)) (compared-last m (p .port3)))
+
+  -- the first step, from the machine as it was and from the compared one
+  first-step : stepOf p image mem m .refusal ≡ 0
+      → further (nothingDone 0 m mem) (stepOf p image mem m) ≡ further (comparedFirst (seen .ends1) (seen .machine) mem) (stepOf p image mem (seen .machine))
+  unfolding clockedOn
+  first-step d =
+      let ends = spanOf (done .cycles) (done .machine) .ends1 in
+      rw (from-before d, from-compared, compared-leaves m (p .port3) (l .file .long) (l .file .bytes 0xF1) .kind-left, zero-add (seen .ends1 + ends), zero-add ends)
+
+  pub compared-before : (budget : ℕ) (c : Comparison) → c ≡ comparedOf m (p .port3) → 0 < budget → stepOf p image mem m .refusal ≡ 0
+      → allTurns p image mem (c .machine) (c .ends1) budget ≡ stepsOf p image mem m budget
+  unfolding stepsOf
+  compared-before zero c e h d = absurd (omega arith)
+  compared-before (suc n) c e h d =
+      let f = oneMore p image (suc n) in
+      let a = comparedFirst (seen .ends1) (seen .machine) mem in
+      let b = nothingDone 0 m mem in
+      rw e
+      (iter-split f (suc n) n 1 (omega arith) a
+      ∙ ap (iter n f)
+      (iter-one f a
+      ∙ goes p image mem m 0 (suc n) a refl h
+      ∙ sym (first-step d)
+      ∙ sym (goes p image mem m 0 (suc n) b refl h)
+      ∙ sym (iter-one f b))
+      ∙ sym (iter-split f (suc n) n 1 (omega arith) b))
+
 -- a step is the steps that reach a budget of one
-pub one-step : (p : Pins) (image mem : List ℕ) (m : Machine) → stepsOf p image mem m 1 ≡ stepOf p image mem m
+one-step : (p : Pins) (image mem : List ℕ) (m : Machine) → stepsOf p image mem m 1 ≡ stepOf p image mem m
 unfolding stepsOf
 one-step p image mem m =
-    iter-one (oneMore p image 1) (nothingDone 0 m mem) ∙ goes p image mem m 1 (nothingDone 0 m mem) refl (omega arith) ∙ from-nothing (stepOf p image mem m)
+    iter-one (oneMore p image 1) (nothingDone 0 m mem) ∙ goes p image mem m 0 1 (nothingDone 0 m mem) refl (omega arith) ∙ from-nothing (stepOf p image mem m)
   where
     from-nothing : (s : Progress) → further (nothingDone 0 m mem) s ≡ s
     from-nothing s = rw (zero-add (s .cycles), zero-add (s .ends0), zero-add (s .ends1))
+
+pub one-run : (p : Pins) (image mem : List ℕ) (m : Machine) → runOf p image mem m 1 ≡ stepOf p image mem m
+unfolding runOf
+one-run p image mem m = one-step p image mem m

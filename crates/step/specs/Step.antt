@@ -7,19 +7,13 @@ use Rattle.machine.specs.State.{whole}
 use Rattle.machine.specs.Clock.{spanOf}
 use Rattle.machine.specs.Stack.{Stacked}
 use Rattle.machine.specs.declared.Machine.{Machine}
-use Rattle.machine.specs.declared.Core.{Core}
 use Rattle.machine.specs.declared.Pins.{Pins}
-use Rattle.machine.specs.declared.Stores.the-variants.{Nothing}
-use Rattle.opcodes.specs.Instruction.{opcodeUndefined}
-use Rattle.opcodes.specs.declared.Kind.{Kind}
-use Rattle.deeds.specs.declared.Code.{Code}
-use Rattle.execute.specs.Execute.{Execution, refusedOf, executionOf, memoryAfter, performOf, executeOf}
+use Rattle.execute.specs.Execute.{Execution, refusedOf, memoryAfter, executeOf}
 use Rattle.interrupts.specs.Edges.{Comparison, comparedOf}
 use Rattle.interrupts.specs.Grants.{grantOf}
 use Rattle.interrupts.specs.Entry.{enteredOf}
 use Rattle.interrupts.specs.declared.grants.Grant.{Grant}
 use Rattle.interrupts.specs.declared.grants.Grant.the-variants as grant
-use Rattle.step.specs.declared.Acted.{Acted}
 use Rattle.step.specs.declared.Went.{Went}
 
 -- what a step or a run comes to: 0 or a refusal's number, its cycles, "each timer's ends, edge ends too", the machine, data memory
@@ -75,24 +69,6 @@ unfoldable pub stepOf : Pins → List ℕ → List ℕ → Machine → Progress
 stepOf p image mem m = clockedOn m mem (actionOf p image mem m)
 
 -- for the code: the same beside a lent file and data memory
-abbrev pub actedOf : List ℕ → Acted → Action
-actedOf file a = record { done = executionOf file (record { refusal = a .refusal; cycles = a .cycles; stores = a .stores; k = a .k }); ends1 = a .ends1 }
-
 abbrev pub progressOf : List ℕ → List ℕ → Went → Progress
 progressOf file mem w =
     record { refusal = w .refusal; cycles = w .cycles; ends0 = w .ends0; ends1 = w .ends1; machine = whole file (w .k); memory = mem }
-
-abbrev pub refusedAct : Core → Acted
-refusedAct k = record { refusal = opcodeUndefined; cycles = 0; stores = Nothing; ends1 = 0; k = k }
-
--- for the code: the pins compared, and then an instruction of this kind, whichever instruction is there, and a request
-unfoldable pub performedOn : Pins → List ℕ → List ℕ → Comparison → Kind → Code → Action
-performedOn p image mem c kind i = record { done = performOf p image mem (c .machine) kind i; ends1 = c .ends1 }
-
-unfoldable pub instructed : Pins → List ℕ → List ℕ → Machine → Action
-instructed p image mem m =
-    let c = comparedOf m (p .port3) in
-    actOn m c (executeOf p image mem (c .machine))
-
-unfoldable pub enteredOn : List ℕ → Comparison → ℕ → Action
-enteredOn image c n = record { done = costingEntry (c .machine .cost) (enteredOf image (c .machine) n); ends1 = c .ends1 }

@@ -1,31 +1,21 @@
 // The whole chip: one step, the bounded run, the span (01 "One step"). A `Machine` goes by value; below `step` and `run` its file is lent.
-use deeds::Code;
+use execute::Executed;
 use interrupts::grants::Grant;
 use machine::Core;
 use machine::Machine;
 use machine::Pins;
-use machine::Stores;
-use opcodes::Entry;
-use opcodes::Kind;
 ghost use mathlib.Core.Path.{_≡_};
-ghost use Prim.Native.Nat.{_≤_, _<_};
-ghost use Rattle.opcodes.specs.Map.{entryOf};
+ghost use mathlib.Core.Bool.{true, false};
+ghost use mathlib.Core.List.{List};
+ghost use Prim.Native.Nat.{ℕ, _≤_, _<_};
 ghost use Rattle.machine.specs.State.{whole};
 ghost use Rattle.machine.specs.Legal.{Legal};
 ghost use Rattle.machine.specs.Clock.{spanOf};
-ghost use Rattle.interrupts.specs.Edges.{comparedOf};
-ghost use Rattle.step.specs.Step.{actionOf, stepOf, actedOf, progressOf, refusedAct, performedOn, instructed, enteredOn};
-ghost use Rattle.step.specs.Run.{budgetLimit, stepsOf, runOf, steppedOf, byValue, passedOf};
-
-// What was done on the pins given, beside the file that was lent, before the clock is advanced: 0 or a refusal's number, the cycles it
-// costs, what is to be stored in data memory, T1's ends by the edges, and the rest of the machine.
-pub struct Acted {
-    pub refusal: u8,
-    pub cycles: u8,
-    pub stores: Stores,
-    pub ends1: u32,
-    pub k: Core,
-}
+ghost use Rattle.execute.specs.Execute.{executionOf};
+ghost use Rattle.interrupts.specs.Grants.{grantOf};
+ghost use Rattle.interrupts.specs.Entry.{enteredOf};
+ghost use Rattle.step.specs.Step.{costingEntry, grantedOr, stepOf, progressOf};
+ghost use Rattle.step.specs.Run.{nothingDone, budgetLimit, stepsOf, runOf, steppedOf, byValue, passedOf};
 
 // What a step or a run comes to, beside the file and the data memory that were lent.
 pub struct Went {
@@ -55,120 +45,91 @@ pub struct Passed {
 // 01: a run budget over 1,000,000 cycles is refused.
 pub const BUDGET_LIMIT: u32 = 1000000;
 
-// Refusal 5: nothing is changed.
-fn refuse(k: Core) -> Acted
-    ensures { λ r. ⌜ r ≡ refusedAct k ⌝ }
-{
-    Acted {
-        refusal: 5,
-        cycles: 0,
-        stores: Stores::Nothing,
-        ends1: 0,
-        k,
-    }
-}
-
-// The pins compared, and an instruction of this kind.
-fn perform(
-    regs: &mut [u8; 256],
-    k: Core,
-    pins: Pins,
-    image: &[u8],
-    mem: &[u8],
-    kind: Kind,
-    i: Code,
-) -> Acted
-    requires { ⌜ Legal (whole (now regs) k) ⌝ }
-    requires { ⌜ entryOf (i .op) ≡ Entry.Of kind ⌝ }
-    ensures { λ r. ⌜ actedOf (now (regs .exit)) r ≡ performedOn pins (now (image .entry)) (now (mem .entry)) (comparedOf (whole (now (regs .entry)) k) (pins .port3)) kind i ⌝ }
-{
-    let c = interrupts::edges::compare(regs, k, pins.port3);
-    let seen = c.k;
-    let ends1 = c.ends1;
-    let x = execute::perform(regs, seen, pins, image, mem, kind, i);
-    let stores = x.stores;
-    let after = x.k;
-    Acted {
-        refusal: x.refusal,
-        cycles: x.cycles,
-        stores,
-        ends1,
-        k: after,
-    }
-}
-
-// One instruction, where nothing is granted.
-fn instruct(regs: &mut [u8; 256], k: Core, pins: Pins, image: &[u8], mem: &[u8]) -> Acted
-    requires { ⌜ Legal (whole (now regs) k) ⌝ }
-    ensures { λ r. ⌜ actedOf (now (regs .exit)) r ≡ instructed pins (now (image .entry)) (now (mem .entry)) (whole (now (regs .entry)) k) ⌝ }
-{
-    let i = execute::fetch(image, k.pc);
-    let e = opcodes::map::entry_of(i.op);
-    match e {
-        Entry::Blank => refuse(k),
-        Entry::Of(kind) => perform(regs, k, pins, image, mem, kind, i),
-    }
-}
-
-// The pins compared, and request n entered.
-fn enter(regs: &mut [u8; 256], k: Core, pins: Pins, image: &[u8], n: u8) -> Acted
-    requires { ⌜ Legal (whole (now regs) k) ⌝ }
+// Request n entered.
+fn enter(regs: &mut [u8; 256], k: Core, image: &[u8], n: u8) -> Executed
     requires { ⌜ n < 6 ⌝ }
-    ensures { λ r. ⌜ actedOf (now (regs .exit)) r ≡ enteredOn (now (image .entry)) (comparedOf (whole (now (regs .entry)) k) (pins .port3)) n ⌝ }
+    ensures { λ r. ⌜ executionOf (now (regs .exit)) r ≡ costingEntry (k .cost) (enteredOf (now (image .entry)) (whole (now (regs .entry)) k) n) ⌝ }
 {
-    let c = interrupts::edges::compare(regs, k, pins.port3);
-    let seen = c.k;
-    let ends1 = c.ends1;
-    let x = interrupts::entry::enter(regs, seen, image, n);
+    let x = interrupts::entry::enter(regs, k, image, n);
     let stores = x.stores;
     let after = x.k;
-    Acted {
+    Executed {
         refusal: 0,
         cycles: k.cost,
         stores,
-        ends1,
         k: after,
     }
 }
 
-// A grant, or else an instruction. Which it is, and whether it is refused, is known before anything is stored.
-fn act(regs: &mut [u8; 256], k: Core, pins: Pins, image: &[u8], mem: &[u8]) -> Acted
-    requires { ⌜ Legal (whole (now regs) k) ⌝ }
-    ensures { λ r. ⌜ actedOf (now (regs .exit)) r ≡ actionOf pins (now (image .entry)) (now (mem .entry)) (whole (now (regs .entry)) k) ⌝ }
+// A grant, or else an instruction, where the pins have been compared.
+fn act(regs: &mut [u8; 256], k: Core, pins: Pins, image: &[u8], mem: &[u8]) -> Executed
+    ensures { λ r. ⌜ executionOf (now (regs .exit)) r ≡ grantedOr pins (now (image .entry)) (now (mem .entry)) (whole (now (regs .entry)) k) (grantOf (whole (now (regs .entry)) k)) ⌝ }
 {
-    let irq = interrupts::edges::requests(regs, k, pins.port3);
+    let irq = machine::registers::held(regs, 0xFA);
     let imr = machine::registers::held(regs, 0xFB);
     let ipr = machine::registers::held(regs, 0xF9);
     let g = interrupts::grants::granted(irq, imr, ipr);
     match g {
-        Grant::Nothing => instruct(regs, k, pins, image, mem),
-        Grant::Request(n) => enter(regs, k, pins, image, n),
+        Grant::Nothing => execute::execute(regs, k, pins, image, mem),
+        Grant::Request(n) => enter(regs, k, image, n),
     }
 }
 
-// One step on a lent file and data memory.
+// One step on a lent file and data memory, where the pins given are the last already, so that there is nothing to compare. What is
+// refused leaves at once, and data memory is stored to before the clock: so the compiler sees in each instruction that it is not
+// refused, and in most that nothing is to be stored.
 fn step_in(regs: &mut [u8; 256], k: Core, pins: Pins, image: &[u8], mem: &mut [u8]) -> Went
     requires { ⌜ Legal (whole (now regs) k) ⌝ }
+    requires { ⌜ k .last3 ≡ pins .port3 ⌝ }
     ensures { λ r. ⌜ progressOf (now (regs .exit)) (now (mem .exit)) r ≡ stepOf pins (now (image .entry)) (now (mem .entry)) (whole (now (regs .entry)) k) ⌝ }
 {
-    let a = act(regs, k, pins, image, mem);
-    let cycles = a.cycles as u32;
-    let stores = a.stores;
-    let done = a.k;
-    let c = machine::clock::span(regs, done, cycles);
+    let x = act(regs, k, pins, image, mem);
+    let done = x.k;
+    if x.refusal != 0 {
+        return Went {
+            refusal: x.refusal,
+            cycles: 0,
+            ends0: 0,
+            ends1: 0,
+            k: done,
+        };
+    }
+    let cycles = x.cycles as u32;
+    let stores = x.stores;
     machine::memory::store(k.kind, mem, stores);
+    let c = machine::clock::span(regs, done, cycles);
     let clocked = c.k;
-    let ends1 = a.ends1 + c.ends1;
     Went {
-        refusal: a.refusal,
+        refusal: 0,
         cycles,
         ends0: c.ends0,
-        ends1,
+        ends1: c.ends1,
         k: clocked,
     }
 }
 
-// Steps in turn until their cycles reach the budget, or one is refused.
+// Whether the next step is refused: nothing is granted, the edges counted, and the opcode is undefined. That is known before anything is
+// stored.
+fn is_refused(regs: &[u8; 256], k: Core, pins: Pins, image: &[u8]) -> bool
+    requires { ⌜ Legal (whole (now regs) k) ⌝ }
+    ensures refused { λ r. ⌜ (r ≡ true → (mem : List ℕ) → stepOf pins (now (image .entry)) mem (whole (now (regs .entry)) k) ≡ nothingDone 5 (whole (now (regs .entry)) k) mem) ⌝ }
+    ensures taken { λ r. ⌜ (r ≡ false → (mem : List ℕ) → stepOf pins (now (image .entry)) mem (whole (now (regs .entry)) k) .refusal ≡ 0) ⌝ }
+{
+    let irq = interrupts::edges::requests(regs, k, pins.port3);
+    let imr = machine::registers::held(regs, 0xFB);
+    let ipr = machine::registers::held(regs, 0xF9);
+    let g = interrupts::grants::granted_first(irq, imr, ipr);
+    match g {
+        Grant::Nothing => {
+            let op = machine::memory::program(image, k.pc);
+            !opcodes::map::is_defined(op)
+        }
+        Grant::Request(_) => false,
+    }
+}
+
+// Steps in turn until their cycles reach the budget, or one is refused. "A run holds the pins": after the first step they are the last, so
+// they are compared once, before the steps, where the first is not refused.
 fn steps(
     regs: &mut [u8; 256],
     k: Core,
@@ -181,10 +142,30 @@ fn steps(
     requires { ⌜ budget ≤ budgetLimit ⌝ }
     ensures { λ r. ⌜ progressOf (now (regs .exit)) (now (mem .exit)) r ≡ stepsOf pins (now (image .entry)) (now (mem .entry)) (whole (now (regs .entry)) k) budget ⌝ }
 {
-    let mut at = k;
+    if budget == 0 {
+        return Went {
+            refusal: 0,
+            cycles: 0,
+            ends0: 0,
+            ends1: 0,
+            k,
+        };
+    }
+    let refused = is_refused(regs, k, pins, image);
+    if refused {
+        return Went {
+            refusal: 5,
+            cycles: 0,
+            ends0: 0,
+            ends1: 0,
+            k,
+        };
+    }
+    let c = interrupts::edges::compare(regs, k, pins.port3);
+    let mut at = c.k;
     let mut cycles: u32 = 0;
     let mut ends0: u32 = 0;
-    let mut ends1: u32 = 0;
+    let mut ends1: u32 = c.ends1;
     while cycles < budget {
         let s = step_in(regs, at, pins, image, mem);
         let next = s.k;
@@ -226,17 +207,6 @@ fn by_value(regs: [u8; 256], w: Went) -> Stepped
     }
 }
 
-// One step. It costs a cycle at least, so it is the steps that reach a budget of one.
-pub fn step(m: Machine, pins: Pins, image: &[u8], mem: &mut [u8]) -> Stepped
-    requires { ⌜ Legal m ⌝ }
-    ensures { λ r. ⌜ steppedOf (now (mem .exit)) r ≡ stepOf pins (now (image .entry)) (now (mem .entry)) m ⌝ }
-{
-    let mut regs = m.regs;
-    let k = machine::core_of(m);
-    let w = steps(&mut regs, k, pins, image, mem, 1);
-    by_value(regs, w)
-}
-
 // The bounded run.
 pub fn run(m: Machine, pins: Pins, image: &[u8], mem: &mut [u8], budget: u32) -> Stepped
     requires { ⌜ Legal m ⌝ }
@@ -255,6 +225,15 @@ pub fn run(m: Machine, pins: Pins, image: &[u8], mem: &mut [u8], budget: u32) ->
     let k = machine::core_of(m);
     let w = steps(&mut regs, k, pins, image, mem, budget);
     by_value(regs, w)
+}
+
+// One step. It costs a cycle at least, so it is the run that reaches a budget of one. (With `run` as their one caller the steps have the
+// file in its frame.)
+pub fn step(m: Machine, pins: Pins, image: &[u8], mem: &mut [u8]) -> Stepped
+    requires { ⌜ Legal m ⌝ }
+    ensures { λ r. ⌜ steppedOf (now (mem .exit)) r ≡ stepOf pins (now (image .entry)) (now (mem .entry)) m ⌝ }
+{
+    run(m, pins, image, mem, 1)
 }
 
 // n cycles, in one move by division.

@@ -8,42 +8,60 @@ use Rattle.machine.proofs.memory.store.Reads as store-reads
 use Rattle.step.proofs.act.Reads as act-reads
 use mathlib.Core.Path.{_≡_, ap, sym, _∙_, subst}
 use denote.Ref.{now}
-use Rattle.machine.specs.State.{whole}
 use native.Mathlib.Omega.{arith}
-use Prim.Native.Nat.{_≤_}
-use Rattle.step.specs.Step.{Action, stepOf, clockedOn}
+use Rattle.machine.specs.State.{whole}
+use Rattle.machine.specs.Clock.{ranOf}
 use Rattle.machine.specs.Legal.{Legal}
-use Rattle.machine.specs.Clock.{Ran, spanOf}
 use Rattle.machine.proofs.Legal.{LegalPins}
-use Rattle.step.proofs.Good.{act-good}
-use Rattle.step.proofs.Acts.{read-any, act-legal, act-ends, act-clock}
+use Rattle.execute.specs.Execute.{Execution, executionOf}
+use Rattle.interrupts.specs.Grants.{grantOf}
+use Rattle.step.proofs.Good.{granted-sound}
+use Rattle.step.proofs.Acts.{read-any, step-refused, step-taken}
 
 pins-legal : (s : tie.Start) → LegalPins (s .args .pins)
 pins-legal s = search needs
 
+-- src/lib.rt:86:9
 act-requires : tie.Need-act-requires
 act-requires c κs = search needs
 
-cast-cycles : tie.Need-cast-cycles
-cast-cycles c = search needs
-
-span-requires : tie.Need-span-requires
-span-requires c κs = subst Legal (sym (ap (λ (a : Action). a .done .machine) (c .before .before .before .act .ensures))) (act-legal (c .before .before .before .before .before .before .before .before .pre) (act-good (c .before .before .before .before .before .before .before .before .args .pins) (now (c .before .before .before .before .before .before .before .before .args .image)) (now (c .before .before .before .before .before .before .before .before .args .mem)) (whole (now (c .before .before .before .before .before .before .before .before .args .regs)) (c .before .before .before .before .before .before .before .before .args .k)) (c .before .before .before .before .before .before .before .before .pre) (pins-legal (c .before .before .before .before .before .before .before .before)) (read-any (now (c .before .before .before .before .before .before .before .before .args .image)) (λ i. omega (arith, c .before .before .before .before .before .before .before .shared-slice-known .given i))) (read-any (now (c .before .before .before .before .before .before .before .before .args .mem)) (λ i. omega (arith, c .before .before .before .before .before .before .slice-known .given i)))))
-
-store-requires : tie.Need-store-requires
-store-requires c κs = search needs
-
-add-ends1 : tie.Need-add-ends1
-add-ends1 c = let good = act-good (c .before .before .before .before .before .before .before .before .before .before .before .before .before .before .before .before .args .pins) (now (c .before .before .before .before .before .before .before .before .before .before .before .before .before .before .before .before .args .image)) (now (c .before .before .before .before .before .before .before .before .before .before .before .before .before .before .before .before .args .mem)) (whole (now (c .before .before .before .before .before .before .before .before .before .before .before .before .before .before .before .before .args .regs)) (c .before .before .before .before .before .before .before .before .before .before .before .before .before .before .before .before .args .k)) (c .before .before .before .before .before .before .before .before .before .before .before .before .before .before .before .before .pre) (pins-legal (c .before .before .before .before .before .before .before .before .before .before .before .before .before .before .before .before)) (read-any (now (c .before .before .before .before .before .before .before .before .before .before .before .before .before .before .before .before .args .image)) (λ i. omega (arith, c .before .before .before .before .before .before .before .before .before .before .before .before .before .before .before .shared-slice-known .given i))) (read-any (now (c .before .before .before .before .before .before .before .before .before .before .before .before .before .before .before .before .args .mem)) (λ i. omega (arith, c .before .before .before .before .before .before .before .before .before .before .before .before .before .before .slice-known .given i))) in let few = subst (λ (a : Action). a .ends1 ≤ 1) (sym (c .before .before .before .before .before .before .before .before .before .before .before .act .ensures)) (act-ends good) in let clock = subst (λ (a : Action). spanOf (a .done .cycles) (a .done .machine) .ends1 ≤ 63) (sym (c .before .before .before .before .before .before .before .before .before .before .before .act .ensures)) (act-clock (c .before .before .before .before .before .before .before .before .before .before .before .before .before .before .before .before .pre) good) in let ends = ap (λ (r : Ran). r .ends1) (c .before .before .before .before .before .before .before .span .ensures) in omega (arith, few, clock, ends)
-
+-- src/lib.rt:89:9
 same-length : tie.Need-same-length
 same-length c = search needs
 
+-- src/lib.rt:89:9
 returns : tie.Need-returns
-unfolding stepOf clockedOn
-returns c = rw (← c .before .before .before .before .before .before .before .before .before .before .before .act .ensures, ← c .before .before .before .before .before .before .before .span .ensures, c .before .before .before .before .before .store .ensures)
+returns c = step-refused (c .before .before .before .before .before .before .before .before .args .pins) (now (c .before .before .before .before .before .before .before .before .args .image)) (now (c .before .before .before .before .before .before .before .before .args .mem)) (whole (now (c .before .before .before .before .before .before .before .before .args .regs)) (c .before .before .before .before .before .before .before .before .args .k)) (c .before .before .before .before .before .before .before .before .pre .0) (c .before .before .before .before .before .before .before .before .pre .1) _ (c .before .before .before .act .ensures) (c .if1 .taken)
+
+-- src/lib.rt:97:18
+cast-cycles : tie.Need-cast-cycles
+cast-cycles c = search needs
+
+-- src/lib.rt:99:5
+store-requires : tie.Need-store-requires
+store-requires c κs = search needs
+
+-- src/lib.rt:100:9
+span-requires : tie.Need-span-requires
+span-requires c κs = subst Legal (sym (ap (λ (x : Execution). x .machine) (c .before .before .before .before .before .before .before .before .before .act .ensures))) (granted-sound (c .before .before .before .before .before .before .before .before .before .before .before .before .before .before .args .pins) (now (c .before .before .before .before .before .before .before .before .before .before .before .before .before .before .args .image)) (now (c .before .before .before .before .before .before .before .before .before .before .before .before .before .before .args .mem)) (whole (now (c .before .before .before .before .before .before .before .before .before .before .before .before .before .before .args .regs)) (c .before .before .before .before .before .before .before .before .before .before .before .before .before .before .args .k)) (grantOf (whole (now (c .before .before .before .before .before .before .before .before .before .before .before .before .before .before .args .regs)) (c .before .before .before .before .before .before .before .before .before .before .before .before .before .before .args .k))) (c .before .before .before .before .before .before .before .before .before .before .before .before .before .before .pre .0) (pins-legal (c .before .before .before .before .before .before .before .before .before .before .before .before .before .before)) (read-any (now (c .before .before .before .before .before .before .before .before .before .before .before .before .before .before .args .image)) (λ i. omega (arith, c .before .before .before .before .before .before .before .before .before .before .before .before .before .shared-slice-known .given i))) (read-any (now (c .before .before .before .before .before .before .before .before .before .before .before .before .before .before .args .mem)) (λ i. omega (arith, c .before .before .before .before .before .before .before .before .before .before .before .before .slice-known .given i))) .legal)
+
+-- src/lib.rt:81:1
+same-length-2 : tie.Need-same-length-2
+same-length-2 c = search needs
+
+-- src/lib.rt:81:1
+returns-2 : tie.Need-returns-2
+returns-2 c = rw (c .before .before .before .before .before .store .ensures) (step-taken (c .before .before .before .before .before .before .before .before .before .before .before .before .before .before .before .before .args .pins) (now (c .before .before .before .before .before .before .before .before .before .before .before .before .before .before .before .before .args .image)) (now (c .before .before .before .before .before .before .before .before .before .before .before .before .before .before .before .before .args .mem)) (whole (now (c .before .before .before .before .before .before .before .before .before .before .before .before .before .before .before .before .args .regs)) (c .before .before .before .before .before .before .before .before .before .before .before .before .before .before .before .before .args .k)) (c .before .before .before .before .before .before .before .before .before .before .before .before .before .before .before .before .pre .0) (c .before .before .before .before .before .before .before .before .before .before .before .before .before .before .before .before .pre .1) _ (c .before .before .before .before .before .before .before .before .before .before .before .act .ensures) _ (c .before .before .before .before .before .before .before .before .if1 .left) (c .before .span .ensures))
 
 pub step-in-spec : {M : Type 1} → statement M
 step-in-spec =
     tie.close
-    (tie.spec act-requires cast-cycles span-requires store-requires add-ends1 same-length returns)
+    (tie.spec
+    act-requires
+    same-length
+    returns
+    cast-cycles
+    store-requires
+    span-requires
+    same-length-2
+    returns-2)
