@@ -9,7 +9,6 @@ use Rattle.word.specs.Fields.{upper, lower}
 use Rattle.word.proofs.Computed.{made, agree2, fails, NoneOf, else-passes}
 use Rattle.opcodes.specs.declared.Entry.{Entry}
 use Rattle.opcodes.specs.declared.Entry.the-variants.{Blank, Of}
-use Rattle.opcodes.specs.declared.Decoded.{Decoded}
 use Rattle.opcodes.specs.declared.Decoded.the-variants as decoded
 use Rattle.opcodes.specs.Map.{entryOf}
 use Rattle.opcodes.specs.Instruction.{defined, lengthOf, operand, opcodeUndefined, decodedAs, decodeOf}

@@ -1,8 +1,8 @@
 -- What is done, by what is granted and by the map's entry; and what it comes to where the pins given are the last already. Assumes nothing.
 use mathlib.Core.Path.{_≡_, refl, ap, sym, _∙_, subst}
-use mathlib.Core.Bool.{Bool, true, false}
+use mathlib.Core.Bool.{true, false}
 use mathlib.Core.List.{List, [], _∷_}
-use Prim.Native.Nat.{ℕ, zero, suc, _+_, _<_}
+use Prim.Native.Nat.{ℕ, zero, suc, _<_}
 use native.Mathlib.Nat.{zero-add}
 use native.Mathlib.Omega.{arith}
 use borrow.Author.Tests.{ne-eqb}
@@ -24,14 +24,13 @@ use Rattle.deeds.proofs.Fits.{AllRead}
 use Rattle.execute.specs.Execute.{Execution, refusedOf, codeAt, performOf, executeAs, executeOf}
 use Rattle.execute.proofs.Theorems.{undefined-refused, defined-done}
 use Rattle.execute.proofs.Last3.{execute-leaves}
-use Rattle.interrupts.specs.Edges.{Comparison, comparedOf}
+use Rattle.interrupts.specs.Edges.{comparedOf}
 use Rattle.interrupts.specs.Grants.{granted, grantOf}
 use Rattle.interrupts.specs.declared.grants.Grant.{Grant}
 use Rattle.interrupts.specs.declared.grants.Grant.the-variants as grant
 use Rattle.interrupts.proofs.Steady.{compared-leaves, compared-again, compared-last}
 use Rattle.interrupts.proofs.Legal.{entered-leaves}
 use Rattle.step.specs.Step.{Progress, Action, grantedOr, actOn, actionOf, clockedOn, stepOf}
-use Rattle.step.specs.Run.{nothingDone}
 use Rattle.step.proofs.Good.{unclocked}
 
 -- the bytes of a slice, read past its end too

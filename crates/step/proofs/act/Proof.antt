@@ -7,12 +7,8 @@ use Rattle.execute.proofs.execute.Reads as execute-reads
 use Rattle.interrupts.proofs.grants.granted.Reads as granted-reads
 use Rattle.machine.proofs.registers.held.Reads as held-reads
 use Rattle.step.proofs.enter.Reads as enter-reads
-use mathlib.Core.Path.{_≡_, ap, sym, _∙_}
-use denote.Ref.{now}
-use native.Mathlib.Omega.{arith}
-use Rattle.machine.specs.State.{whole}
+use mathlib.Core.Path.{sym, _∙_}
 use Rattle.interrupts.specs.Grants.{grantOf}
-use Rattle.interrupts.specs.declared.grants.Grant.the-variants as grant
 use Rattle.interrupts.proofs.Orders.{granted-low}
 use Rattle.step.specs.Step.{grantedOr}
 

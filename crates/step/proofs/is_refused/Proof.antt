@@ -8,22 +8,11 @@ use Rattle.interrupts.proofs.grants.granted_first.Reads as granted-first-reads
 use Rattle.machine.proofs.memory.program.Reads as program-reads
 use Rattle.machine.proofs.registers.held.Reads as held-reads
 use Rattle.opcodes.proofs.map.is_defined.Reads as is-defined-reads
-use mathlib.Core.Path.{_≡_, ap, sym, _∙_, subst}
-use mathlib.Core.Bool.{Bool, true, false, not}
-use mathlib.Core.List.{List}
+use mathlib.Core.Path.{sym, _∙_, subst}
 use denote.Ref.{now}
-use Prim.Native.Nat.{ℕ}
 use lib.Dec.{T}
 use borrow.Author.Tests.{not-true, not-false}
-use Rattle.opcodes.specs.Map.{entryOf}
-use Rattle.opcodes.specs.Instruction.{defined}
-use Rattle.opcodes.specs.declared.Entry.{Entry}
-use Rattle.opcodes.specs.declared.Entry.the-variants as entry
 use Rattle.machine.specs.State.{whole}
-use Rattle.machine.specs.Memory.{programByte}
-use Rattle.interrupts.specs.Edges.{comparedOf}
-use Rattle.interrupts.specs.Grants.{grantOf}
-use Rattle.interrupts.specs.declared.grants.Grant.the-variants as grant
 use Rattle.step.proofs.Acts.{granted-is}
 use Rattle.step.proofs.Theorems.{told-refused, told-taken, granted-taken}
 

@@ -6,14 +6,13 @@ use Rattle.step.proofs.step_in.Lts as lts
 use Rattle.machine.proofs.clock.span.Reads as span-reads
 use Rattle.machine.proofs.memory.store.Reads as store-reads
 use Rattle.step.proofs.act.Reads as act-reads
-use mathlib.Core.Path.{_≡_, ap, sym, _∙_, subst}
+use mathlib.Core.Path.{ap, sym, subst}
 use denote.Ref.{now}
 use native.Mathlib.Omega.{arith}
 use Rattle.machine.specs.State.{whole}
-use Rattle.machine.specs.Clock.{ranOf}
 use Rattle.machine.specs.Legal.{Legal}
 use Rattle.machine.proofs.Legal.{LegalPins}
-use Rattle.execute.specs.Execute.{Execution, executionOf}
+use Rattle.execute.specs.Execute.{Execution}
 use Rattle.interrupts.specs.Grants.{grantOf}
 use Rattle.step.proofs.Good.{granted-sound}
 use Rattle.step.proofs.Acts.{read-any, step-refused, step-taken}

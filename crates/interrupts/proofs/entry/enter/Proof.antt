@@ -18,7 +18,6 @@ use Rattle.interrupts.specs.Entry.{cleared, enteredOf, acknowledged}
 use mathlib.Core.Path.{ap}
 use denote.Ref.{now}
 use Rattle.machine.specs.State.{heldIn}
-use Rattle.machine.specs.declared.Bytes.the-variants.{Three}
 use Rattle.machine.specs.Stack.{Stacked}
 use Rattle.machine.proofs.Whole.{placed-is, pc-is, push-is}
 

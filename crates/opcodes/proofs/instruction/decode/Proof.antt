@@ -6,10 +6,7 @@ use Rattle.opcodes.proofs.instruction.decode.Lts as lts
 use Rattle.opcodes.proofs.instruction.length_of.Reads as length-of-reads
 use Rattle.opcodes.proofs.instruction.operand.Reads as operand-reads
 use Rattle.opcodes.proofs.map.is_defined.Reads as is-defined-reads
-use mathlib.Core.Path.{_≡_, sym, _∙_}
-use mathlib.Core.Bool.{true, false}
-use Rattle.opcodes.specs.Map.{entryOf}
-use Rattle.opcodes.specs.Instruction.{defined, decodeOf}
+use mathlib.Core.Path.{sym, _∙_}
 use Rattle.opcodes.proofs.Cells.{decoded-where, decoded-where-not}
 
 -- src/instruction.rt:39:9

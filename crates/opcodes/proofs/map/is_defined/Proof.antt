@@ -6,10 +6,9 @@ use Rattle.opcodes.proofs.map.is_defined.Lts as lts
 use Rattle.word.proofs.lower.Reads as lower-reads
 use Rattle.word.proofs.upper.Reads as upper-reads
 use native.Mathlib.Omega.{arith}
-use mathlib.Core.Path.{_≡_, refl}
+use mathlib.Core.Path.{refl}
 use mathlib.Core.Bool.{true, not, _&&_, _||_}
 use lib.Dec.{eqb, ltb, leb}
-use Rattle.word.proofs.Computed.{last}
 use Rattle.opcodes.specs.Map.{entryOf, opcodeMap}
 use Rattle.opcodes.specs.Instruction.{defined}
 use Rattle.opcodes.proofs.Cells.{in-part}
