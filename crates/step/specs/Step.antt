@@ -1,8 +1,13 @@
 -- One step (01 "One step"). Assumes nothing.
+use mathlib.Core.Bool.{Bool, false, not}
 use mathlib.Core.List.{List}
 use Prim.Native.Nat.{ℕ, _+_}
 use lib.Dec.{eqb}
 use Rattle.word.specs.Choose.{pick}
+use Rattle.opcodes.specs.Instruction.{defined}
+use Rattle.opcodes.specs.Map.{entryOf}
+use Rattle.opcodes.specs.declared.Entry.{Entry}
+use Rattle.machine.specs.Memory.{programByte}
 use Rattle.machine.specs.State.{whole}
 use Rattle.machine.specs.Clock.{spanOf}
 use Rattle.machine.specs.Stack.{Stacked}
@@ -72,3 +77,11 @@ stepOf p image mem m = clockedOn m mem (actionOf p image mem m)
 abbrev pub progressOf : List ℕ → List ℕ → Went → Progress
 progressOf file mem w =
     record { refusal = w .refusal; cycles = w .cycles; ends0 = w .ends0; ends1 = w .ends1; machine = whole file (w .k); memory = mem }
+
+-- for the code: whether a step is refused, which is known before anything is stored
+abbrev pub refusedWhere : Grant → Entry → Bool
+refusedWhere grant.Nothing e = not (defined e)
+refusedWhere (grant.Request n) e = false
+
+unfoldable pub isRefusedOf : Pins → List ℕ → Machine → Bool
+isRefusedOf p image m = refusedWhere (grantOf (comparedOf m (p .port3) .machine)) (entryOf (programByte image (m .pc)))

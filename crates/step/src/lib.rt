@@ -14,7 +14,7 @@ ghost use Rattle.machine.specs.Clock.{spanOf};
 ghost use Rattle.execute.specs.Execute.{executionOf};
 ghost use Rattle.interrupts.specs.Grants.{grantOf};
 ghost use Rattle.interrupts.specs.Entry.{enteredOf};
-ghost use Rattle.step.specs.Step.{costingEntry, grantedOr, stepOf, progressOf};
+ghost use Rattle.step.specs.Step.{costingEntry, grantedOr, stepOf, progressOf, isRefusedOf};
 ghost use Rattle.step.specs.Run.{nothingDone, budgetLimit, stepsOf, runOf, steppedOf, byValue, passedOf};
 
 // What a step or a run comes to, beside the file and the data memory that were lent.
@@ -112,6 +112,7 @@ fn step_in(regs: &mut [u8; 256], k: Core, pins: Pins, image: &[u8], mem: &mut [u
 // stored.
 fn is_refused(regs: &[u8; 256], k: Core, pins: Pins, image: &[u8]) -> bool
     requires { ⌜ Legal (whole (now regs) k) ⌝ }
+    ensures { λ r. ⌜ r ≡ isRefusedOf pins (now (image .entry)) (whole (now (regs .entry)) k) ⌝ }
     ensures refused { λ r. ⌜ (r ≡ true → (mem : List ℕ) → stepOf pins (now (image .entry)) mem (whole (now (regs .entry)) k) ≡ nothingDone 5 (whole (now (regs .entry)) k) mem) ⌝ }
     ensures taken { λ r. ⌜ (r ≡ false → (mem : List ℕ) → stepOf pins (now (image .entry)) mem (whole (now (regs .entry)) k) .refusal ≡ 0) ⌝ }
 {

@@ -7,11 +7,9 @@ use Rattle.interrupts.proofs.entry.enter.Reads as enter-reads
 use mathlib.Core.Path.{ap}
 use Rattle.step.specs.Step.{costingEntry}
 
--- src/lib.rt:53:9
 enter-requires : tie.Need-enter-requires
 enter-requires c κs = search needs
 
--- src/lib.rt:49:1
 returns : tie.Need-returns
 returns c = ap (costingEntry (c .before .before .before .before .args .k .cost)) (c .before .enter .ensures)
 

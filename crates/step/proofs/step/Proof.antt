@@ -1,22 +1,16 @@
 use Rattle.step.proofs.step.Statement.{statement}
 use Rattle.step.proofs.step.Tie as tie
-use Rattle.step.proofs.step.Reads as reads
-use Rattle.step.proofs.step.Lts as lts
-use Rattle.step.proofs.run.Reads as run-reads
 use borrow.Author.Needs.{needs}
 use mathlib.Core.Path.{_∙_}
 use denote.Ref.{now}
 use Rattle.step.proofs.Turns.{one-run}
 
--- src/lib.rt:236:5
 run-requires : tie.Need-run-requires
 run-requires c κs = c .before .before .before .pre
 
--- src/lib.rt:232:1
 same-length : tie.Need-same-length
 same-length c = search needs
 
--- src/lib.rt:232:1
 returns : tie.Need-returns
 returns c = c .before .before .run .ensures ∙ one-run (c .before .before .before .before .before .before .args .pins) (now (c .before .before .before .before .before .before .args .image)) (now (c .before .before .before .before .before .before .args .mem)) (c .before .before .before .before .before .before .args .m)
 

@@ -1,11 +1,6 @@
 use borrow.Author.Needs.{needs}
 use Rattle.step.proofs.step_in.Statement.{statement}
 use Rattle.step.proofs.step_in.Tie as tie
-use Rattle.step.proofs.step_in.Reads as reads
-use Rattle.step.proofs.step_in.Lts as lts
-use Rattle.machine.proofs.clock.span.Reads as span-reads
-use Rattle.machine.proofs.memory.store.Reads as store-reads
-use Rattle.step.proofs.act.Reads as act-reads
 use mathlib.Core.Path.{ap, sym, subst}
 use denote.Ref.{now}
 use native.Mathlib.Omega.{arith}
@@ -20,35 +15,27 @@ use Rattle.step.proofs.Acts.{read-any, step-refused, step-taken}
 pins-legal : (s : tie.Start) → LegalPins (s .args .pins)
 pins-legal s = search needs
 
--- src/lib.rt:86:9
 act-requires : tie.Need-act-requires
 act-requires c κs = search needs
 
--- src/lib.rt:89:9
 same-length : tie.Need-same-length
 same-length c = search needs
 
--- src/lib.rt:89:9
 returns : tie.Need-returns
 returns c = step-refused (c .before .before .before .before .before .before .before .before .args .pins) (now (c .before .before .before .before .before .before .before .before .args .image)) (now (c .before .before .before .before .before .before .before .before .args .mem)) (whole (now (c .before .before .before .before .before .before .before .before .args .regs)) (c .before .before .before .before .before .before .before .before .args .k)) (c .before .before .before .before .before .before .before .before .pre .0) (c .before .before .before .before .before .before .before .before .pre .1) _ (c .before .before .before .act .ensures) (c .if1 .taken)
 
--- src/lib.rt:97:18
 cast-cycles : tie.Need-cast-cycles
 cast-cycles c = search needs
 
--- src/lib.rt:99:5
 store-requires : tie.Need-store-requires
 store-requires c κs = search needs
 
--- src/lib.rt:100:9
 span-requires : tie.Need-span-requires
 span-requires c κs = subst Legal (sym (ap (λ (x : Execution). x .machine) (c .before .before .before .before .before .before .before .before .before .act .ensures))) (granted-sound (c .before .before .before .before .before .before .before .before .before .before .before .before .before .before .args .pins) (now (c .before .before .before .before .before .before .before .before .before .before .before .before .before .before .args .image)) (now (c .before .before .before .before .before .before .before .before .before .before .before .before .before .before .args .mem)) (whole (now (c .before .before .before .before .before .before .before .before .before .before .before .before .before .before .args .regs)) (c .before .before .before .before .before .before .before .before .before .before .before .before .before .before .args .k)) (grantOf (whole (now (c .before .before .before .before .before .before .before .before .before .before .before .before .before .before .args .regs)) (c .before .before .before .before .before .before .before .before .before .before .before .before .before .before .args .k))) (c .before .before .before .before .before .before .before .before .before .before .before .before .before .before .pre .0) (pins-legal (c .before .before .before .before .before .before .before .before .before .before .before .before .before .before)) (read-any (now (c .before .before .before .before .before .before .before .before .before .before .before .before .before .before .args .image)) (λ i. omega (arith, c .before .before .before .before .before .before .before .before .before .before .before .before .before .shared-slice-known .given i))) (read-any (now (c .before .before .before .before .before .before .before .before .before .before .before .before .before .before .args .mem)) (λ i. omega (arith, c .before .before .before .before .before .before .before .before .before .before .before .before .slice-known .given i))) .legal)
 
--- src/lib.rt:81:1
 same-length-2 : tie.Need-same-length-2
 same-length-2 c = search needs
 
--- src/lib.rt:81:1
 returns-2 : tie.Need-returns-2
 returns-2 c = rw (c .before .before .before .before .before .store .ensures) (step-taken (c .before .before .before .before .before .before .before .before .before .before .before .before .before .before .before .before .args .pins) (now (c .before .before .before .before .before .before .before .before .before .before .before .before .before .before .before .before .args .image)) (now (c .before .before .before .before .before .before .before .before .before .before .before .before .before .before .before .before .args .mem)) (whole (now (c .before .before .before .before .before .before .before .before .before .before .before .before .before .before .before .before .args .regs)) (c .before .before .before .before .before .before .before .before .before .before .before .before .before .before .before .before .args .k)) (c .before .before .before .before .before .before .before .before .before .before .before .before .before .before .before .before .pre .0) (c .before .before .before .before .before .before .before .before .before .before .before .before .before .before .before .before .pre .1) _ (c .before .before .before .before .before .before .before .before .before .before .before .act .ensures) _ (c .before .before .before .before .before .before .before .before .if1 .left) (c .before .span .ensures))
 

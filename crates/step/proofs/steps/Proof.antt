@@ -1,10 +1,5 @@
 use Rattle.step.proofs.steps.Statement.{statement}
 use Rattle.step.proofs.steps.Tie as tie
-use Rattle.step.proofs.steps.Reads as reads
-use Rattle.step.proofs.steps.Lts as lts
-use Rattle.interrupts.proofs.edges.compare.Reads as compare-reads
-use Rattle.step.proofs.is_refused.Reads as is-refused-reads
-use Rattle.step.proofs.step_in.Reads as step-in-reads
 use borrow.Author.Needs.{needs}
 use mathlib.Core.Path.{_≡_, refl, ap, sym, _∙_, subst}
 use denote.Ref.{now}
@@ -34,24 +29,19 @@ abbrev μ-loop : tie.MeasureT-loop
 pins-legal : (s : tie.Start Inv-loop μ-loop) → LegalPins (s .args .pins)
 pins-legal s = search needs
 
--- src/lib.rt:146:9
 returns : tie.Need-returns Inv-loop μ-loop
 unfolding stepsOf
 returns c = rw (c .if1 .taken) (sym (iter-zero _ _))
 
--- src/lib.rt:154:9
 is-refused-requires : tie.Need-is-refused-requires Inv-loop μ-loop
 is-refused-requires c κs = c .before .before .before .before .pre .0
 
--- src/lib.rt:156:9
 returns-2 : tie.Need-returns-2 Inv-loop μ-loop
-returns-2 c = refused-first (c .before .before .before .before .before .before .args .pins) (now (c .before .before .before .before .before .before .args .image)) (now (c .before .before .before .before .before .before .args .mem)) (whole (now (c .before .before .before .before .before .before .args .regs)) (c .before .before .before .before .before .before .args .k)) (c .before .before .before .before .before .before .args .budget) (omega (arith, c .before .before .before .if1 .left)) (c .before .is-refused .ensures .0 (c .if2 .taken) (now (c .before .before .before .before .before .before .args .mem)))
+returns-2 c = refused-first (c .before .before .before .before .before .before .args .pins) (now (c .before .before .before .before .before .before .args .image)) (now (c .before .before .before .before .before .before .args .mem)) (whole (now (c .before .before .before .before .before .before .args .regs)) (c .before .before .before .before .before .before .args .k)) (c .before .before .before .before .before .before .args .budget) (omega (arith, c .before .before .before .if1 .left)) (c .before .is-refused .ensures .1 .0 (c .if2 .taken) (now (c .before .before .before .before .before .before .args .mem)))
 
--- src/lib.rt:164:9
 compare-requires : tie.Need-compare-requires Inv-loop μ-loop
 compare-requires c κs = c .before .before .before .before .before .before .before .pre .0
 
--- src/lib.rt:169:5
 loop-holds : tie.Need-loop-holds Inv-loop μ-loop
 loop-holds c = (
   at-first _ _ _ _ _ _
@@ -62,45 +52,35 @@ loop-holds c = (
   refl,
 )
 
--- src/lib.rt:170:13
 step-in-requires : tie.Need-step-in-requires Inv-loop μ-loop
 step-in-requires c κs = (c .before .before .before .loop .inv .0 .legal, c .before .before .before .loop .inv .0 .compared)
 
--- src/lib.rt:174:13
 same-length : tie.Need-same-length Inv-loop μ-loop
 same-length c = c .before .before .before .before .before .step-in .kept .1 .1 .1 .1 .0 ∙ c .before .before .before .before .before .before .before .before .before .loop .inv .1
 
--- src/lib.rt:174:13
 returns-3 : tie.Need-returns-3 Inv-loop μ-loop
-returns-3 c = was-refused _ _ _ _ _ _ (pins-legal (c .before .before .before .before .before .before .before .before .before .before .before .before .before .before .before .before .before .before .before)) (read-any (now (c .before .before .before .before .before .before .before .before .before .before .before .before .before .before .before .before .before .before .before .args .image)) (λ i. omega (arith, c .before .before .before .before .before .before .before .before .before .before .before .before .before .before .before .before .before .before .shared-slice-known .given i))) (c .before .before .before .before .before .before .before .before .before .loop .inv .0) (c .before .before .before .before .before .before .before .before .loop-test .taken) (c .before .before .before .before .before .step-in .ensures) (c .if3 .taken) ∙ compared-before (c .before .before .before .before .before .before .before .before .before .before .before .before .before .before .before .before .before .before .before .args .pins) (now (c .before .before .before .before .before .before .before .before .before .before .before .before .before .before .before .before .before .before .before .args .image)) (now (c .before .before .before .before .before .before .before .before .before .before .before .before .before .before .before .before .before .before .before .args .mem)) (whole (now (c .before .before .before .before .before .before .before .before .before .before .before .before .before .before .before .before .before .before .before .args .regs)) (c .before .before .before .before .before .before .before .before .before .before .before .before .before .before .before .before .before .before .before .args .k)) (c .before .before .before .before .before .before .before .before .before .before .before .before .before .before .before .before .before .before .before .pre .0) (pins-legal (c .before .before .before .before .before .before .before .before .before .before .before .before .before .before .before .before .before .before .before)) (c .before .before .before .before .before .before .before .before .before .before .before .before .before .before .before .before .before .before .before .args .budget) _ (c .before .before .before .before .before .before .before .before .before .before .before .compare .ensures) (omega (arith, c .before .before .before .before .before .before .before .before .before .before .before .before .before .before .before .before .if1 .left)) (c .before .before .before .before .before .before .before .before .before .before .before .before .before .before .is-refused .ensures .1 (c .before .before .before .before .before .before .before .before .before .before .before .before .before .if2 .left) (now (c .before .before .before .before .before .before .before .before .before .before .before .before .before .before .before .before .before .before .before .args .mem)))
+returns-3 c = was-refused _ _ _ _ _ _ (pins-legal (c .before .before .before .before .before .before .before .before .before .before .before .before .before .before .before .before .before .before .before)) (read-any (now (c .before .before .before .before .before .before .before .before .before .before .before .before .before .before .before .before .before .before .before .args .image)) (λ i. omega (arith, c .before .before .before .before .before .before .before .before .before .before .before .before .before .before .before .before .before .before .shared-slice-known .given i))) (c .before .before .before .before .before .before .before .before .before .loop .inv .0) (c .before .before .before .before .before .before .before .before .loop-test .taken) (c .before .before .before .before .before .step-in .ensures) (c .if3 .taken) ∙ compared-before (c .before .before .before .before .before .before .before .before .before .before .before .before .before .before .before .before .before .before .before .args .pins) (now (c .before .before .before .before .before .before .before .before .before .before .before .before .before .before .before .before .before .before .before .args .image)) (now (c .before .before .before .before .before .before .before .before .before .before .before .before .before .before .before .before .before .before .before .args .mem)) (whole (now (c .before .before .before .before .before .before .before .before .before .before .before .before .before .before .before .before .before .before .before .args .regs)) (c .before .before .before .before .before .before .before .before .before .before .before .before .before .before .before .before .before .before .before .args .k)) (c .before .before .before .before .before .before .before .before .before .before .before .before .before .before .before .before .before .before .before .pre .0) (pins-legal (c .before .before .before .before .before .before .before .before .before .before .before .before .before .before .before .before .before .before .before)) (c .before .before .before .before .before .before .before .before .before .before .before .before .before .before .before .before .before .before .before .args .budget) _ (c .before .before .before .before .before .before .before .before .before .before .before .compare .ensures) (omega (arith, c .before .before .before .before .before .before .before .before .before .before .before .before .before .before .before .before .if1 .left)) (c .before .before .before .before .before .before .before .before .before .before .before .before .before .before .is-refused .ensures .1 .1 (c .before .before .before .before .before .before .before .before .before .before .before .before .before .if2 .left) (now (c .before .before .before .before .before .before .before .before .before .before .before .before .before .before .before .before .before .before .before .args .mem)))
 
--- src/lib.rt:182:18
 add-cycles : tie.Need-add-cycles Inv-loop μ-loop
 add-cycles c = let taken = was-taken _ _ _ _ _ _ (pins-legal (c .before .before .before .before .before .before .before .before .before .before .before .before .before .before .before .before .before .before .before .before)) (read-any (now (c .before .before .before .before .before .before .before .before .before .before .before .before .before .before .before .before .before .before .before .before .args .image)) (λ i. omega (arith, c .before .before .before .before .before .before .before .before .before .before .before .before .before .before .before .before .before .before .before .shared-slice-known .given i))) (c .before .before .before .before .before .before .before .before .before .before .loop .inv .0) (c .before .before .before .before .before .before .before .before .before .loop-test .taken) (c .before .before .before .before .before .before .step-in .ensures) (c .before .if3 .left) in let budget = c .before .before .before .before .before .before .before .before .before .before .before .before .before .before .before .before .before .before .before .before .pre .1 in let before = c .before .before .before .before .before .before .before .before .before .before .loop .inv .0 in let test = c .before .before .before .before .before .before .before .before .before .loop-test .taken in omega (arith, taken .costs-high, test, budget)
 
--- src/lib.rt:183:17
 add-ends0 : tie.Need-add-ends0 Inv-loop μ-loop
 add-ends0 c = let taken = was-taken _ _ _ _ _ _ (pins-legal (c .before .before .before .before .before .before .before .before .before .before .before .before .before .before .before .before .before .before .before .before .before)) (read-any (now (c .before .before .before .before .before .before .before .before .before .before .before .before .before .before .before .before .before .before .before .before .before .args .image)) (λ i. omega (arith, c .before .before .before .before .before .before .before .before .before .before .before .before .before .before .before .before .before .before .before .before .shared-slice-known .given i))) (c .before .before .before .before .before .before .before .before .before .before .before .loop .inv .0) (c .before .before .before .before .before .before .before .before .before .before .loop-test .taken) (c .before .before .before .before .before .before .before .step-in .ensures) (c .before .before .if3 .left) in let budget = c .before .before .before .before .before .before .before .before .before .before .before .before .before .before .before .before .before .before .before .before .before .pre .1 in let before = c .before .before .before .before .before .before .before .before .before .before .before .loop .inv .0 in let test = c .before .before .before .before .before .before .before .before .before .before .loop-test .taken in omega (arith, taken .costs-high, taken .ends0-few, before .ends0-few, test, budget)
 
--- src/lib.rt:184:17
 add-ends1 : tie.Need-add-ends1 Inv-loop μ-loop
 add-ends1 c = let taken = was-taken _ _ _ _ _ _ (pins-legal (c .before .before .before .before .before .before .before .before .before .before .before .before .before .before .before .before .before .before .before .before .before .before)) (read-any (now (c .before .before .before .before .before .before .before .before .before .before .before .before .before .before .before .before .before .before .before .before .before .before .args .image)) (λ i. omega (arith, c .before .before .before .before .before .before .before .before .before .before .before .before .before .before .before .before .before .before .before .before .before .shared-slice-known .given i))) (c .before .before .before .before .before .before .before .before .before .before .before .before .loop .inv .0) (c .before .before .before .before .before .before .before .before .before .before .before .loop-test .taken) (c .before .before .before .before .before .before .before .before .step-in .ensures) (c .before .before .before .if3 .left) in let budget = c .before .before .before .before .before .before .before .before .before .before .before .before .before .before .before .before .before .before .before .before .before .before .pre .1 in let before = c .before .before .before .before .before .before .before .before .before .before .before .before .loop .inv .0 in let test = c .before .before .before .before .before .before .before .before .before .before .before .loop-test .taken in omega (arith, taken .costs-high, taken .ends1-few, before .ends1-few, test, budget)
 
--- src/lib.rt:169:5
 loop-less : tie.Need-loop-less Inv-loop μ-loop
 loop-less c = let taken = was-taken _ _ _ _ _ _ (pins-legal (c .before .before .before .before .before .before .before .before .before .before .before .before .before .before .before .before .before .before .before .before .before .before)) (read-any (now (c .before .before .before .before .before .before .before .before .before .before .before .before .before .before .before .before .before .before .before .before .before .before .args .image)) (λ i. omega (arith, c .before .before .before .before .before .before .before .before .before .before .before .before .before .before .before .before .before .before .before .before .before .shared-slice-known .given i))) (c .before .before .before .before .before .before .before .before .before .before .before .before .loop .inv .0) (c .before .before .before .before .before .before .before .before .before .before .before .loop-test .taken) (c .before .before .before .before .before .before .before .before .step-in .ensures) (c .before .before .before .if3 .left) in let budget = c .before .before .before .before .before .before .before .before .before .before .before .before .before .before .before .before .before .before .before .before .before .before .pre .1 in let before = c .before .before .before .before .before .before .before .before .before .before .before .before .loop .inv .0 in let test = c .before .before .before .before .before .before .before .before .before .before .before .loop-test .taken in omega (arith, taken .costs-low, test)
 
--- src/lib.rt:169:5
 loop-again : tie.Need-loop-again Inv-loop μ-loop
 loop-again c = let taken = was-taken _ _ _ _ _ _ (pins-legal (c .before .before .before .before .before .before .before .before .before .before .before .before .before .before .before .before .before .before .before .before .before .before)) (read-any (now (c .before .before .before .before .before .before .before .before .before .before .before .before .before .before .before .before .before .before .before .before .before .before .args .image)) (λ i. omega (arith, c .before .before .before .before .before .before .before .before .before .before .before .before .before .before .before .before .before .before .before .before .before .shared-slice-known .given i))) (c .before .before .before .before .before .before .before .before .before .before .before .before .loop .inv .0) (c .before .before .before .before .before .before .before .before .before .before .before .loop-test .taken) (c .before .before .before .before .before .before .before .before .step-in .ensures) (c .before .before .before .if3 .left) in (one-on _ _ _ _ _ _ (pins-legal (c .before .before .before .before .before .before .before .before .before .before .before .before .before .before .before .before .before .before .before .before .before .before)) (read-any (now (c .before .before .before .before .before .before .before .before .before .before .before .before .before .before .before .before .before .before .before .before .before .before .args .image)) (λ i. omega (arith, c .before .before .before .before .before .before .before .before .before .before .before .before .before .before .before .before .before .before .before .before .before .shared-slice-known .given i))) (c .before .before .before .before .before .before .before .before .before .before .before .before .loop .inv .0) (c .before .before .before .before .before .before .before .before .before .before .before .loop-test .taken) (c .before .before .before .before .before .before .before .before .step-in .ensures) taken, c .before .before .before .before .before .before .before .before .step-in .kept .1 .1 .1 .1 .0 ∙ c .before .before .before .before .before .before .before .before .before .before .before .before .loop .inv .1)
 
--- src/lib.rt:133:1
 same-length-2 : tie.Need-same-length-2 Inv-loop μ-loop
 same-length-2 c = c .before .loop .inv .1
 
--- src/lib.rt:133:1
 returns-4 : tie.Need-returns-4 Inv-loop μ-loop
-returns-4 c = reached _ _ _ _ _ _ (c .before .loop .inv .0) (c .loop-test .left) ∙ compared-before (c .before .before .before .before .before .before .before .before .before .before .before .args .pins) (now (c .before .before .before .before .before .before .before .before .before .before .before .args .image)) (now (c .before .before .before .before .before .before .before .before .before .before .before .args .mem)) (whole (now (c .before .before .before .before .before .before .before .before .before .before .before .args .regs)) (c .before .before .before .before .before .before .before .before .before .before .before .args .k)) (c .before .before .before .before .before .before .before .before .before .before .before .pre .0) (pins-legal (c .before .before .before .before .before .before .before .before .before .before .before)) (c .before .before .before .before .before .before .before .before .before .before .before .args .budget) _ (c .before .before .before .compare .ensures) (omega (arith, c .before .before .before .before .before .before .before .before .if1 .left)) (c .before .before .before .before .before .before .is-refused .ensures .1 (c .before .before .before .before .before .if2 .left) (now (c .before .before .before .before .before .before .before .before .before .before .before .args .mem)))
+returns-4 c = reached _ _ _ _ _ _ (c .before .loop .inv .0) (c .loop-test .left) ∙ compared-before (c .before .before .before .before .before .before .before .before .before .before .before .args .pins) (now (c .before .before .before .before .before .before .before .before .before .before .before .args .image)) (now (c .before .before .before .before .before .before .before .before .before .before .before .args .mem)) (whole (now (c .before .before .before .before .before .before .before .before .before .before .before .args .regs)) (c .before .before .before .before .before .before .before .before .before .before .before .args .k)) (c .before .before .before .before .before .before .before .before .before .before .before .pre .0) (pins-legal (c .before .before .before .before .before .before .before .before .before .before .before)) (c .before .before .before .before .before .before .before .before .before .before .before .args .budget) _ (c .before .before .before .compare .ensures) (omega (arith, c .before .before .before .before .before .before .before .before .if1 .left)) (c .before .before .before .before .before .before .is-refused .ensures .1 .1 (c .before .before .before .before .before .if2 .left) (now (c .before .before .before .before .before .before .before .before .before .before .before .args .mem)))
 
 pub steps-spec : {M : Type 1} → statement M
 steps-spec =

@@ -13,35 +13,27 @@ use Rattle.machine.specs.State.{whole}
 use Rattle.machine.specs.Addresses.{writePair}
 use Rattle.machine.proofs.Whole.{pair-keeps, kept-is}
 
--- src/addresses.rt:85:9
 even-requires : tie.Need-even-requires
 even-requires c κs = search needs
 
--- src/addresses.rt:86:9
 high-byte-requires : tie.Need-high-byte-requires
 high-byte-requires c κs = search needs
 
--- src/addresses.rt:87:9
 low-byte-requires : tie.Need-low-byte-requires
 low-byte-requires c κs = search needs
 
--- src/addresses.rt:88:9
 write-any-requires : tie.Need-write-any-requires
 write-any-requires c κs = search needs
 
--- src/addresses.rt:89:52
 add-write-any : tie.Need-add-write-any
 add-write-any c = search needs
 
--- src/addresses.rt:89:9
 write-any-requires-2 : tie.Need-write-any-requires-2
 write-any-requires-2 c κs = search needs
 
--- src/addresses.rt:90:5
 keeping-requires : tie.Need-keeping-requires
 keeping-requires c κs = search needs
 
--- src/addresses.rt:82:1
 returns : tie.Need-returns
 unfolding writePair
 returns c =

@@ -1,11 +1,6 @@
 use borrow.Author.Needs.{needs}
 use Rattle.machine.proofs.memory.program_three.Statement.{statement}
 use Rattle.machine.proofs.memory.program_three.Tie as tie
-use Rattle.machine.proofs.memory.program_three.Reads as reads
-use Rattle.machine.proofs.memory.program_three.Lts as lts
-use Rattle.machine.proofs.memory.program.Reads as program-reads
-use Rattle.machine.proofs.memory.reach.Reads as reach-reads
-use Rattle.word.proofs.plus.Reads as plus-reads
 use native.Mathlib.Omega.{arith}
 use mathlib.Core.Path.{_≡_}
 use Prim.Native.Nat.{_+_, _<_}

@@ -9,27 +9,21 @@ use Rattle.opcodes.proofs.map.is_defined.Reads as is-defined-reads
 use mathlib.Core.Path.{sym, _∙_}
 use Rattle.opcodes.proofs.Cells.{decoded-where, decoded-where-not}
 
--- src/instruction.rt:39:9
 is-defined-requires : tie.Need-is-defined-requires
 is-defined-requires c κs = search needs
 
--- src/instruction.rt:40:9
 length-of-requires : tie.Need-length-of-requires
 length-of-requires c κs = search needs
 
--- src/instruction.rt:41:9
 operand-requires : tie.Need-operand-requires
 operand-requires c κs = search needs
 
--- src/instruction.rt:42:9
 operand-requires-2 : tie.Need-operand-requires-2
 operand-requires-2 c κs = search needs
 
--- src/instruction.rt:36:1
 returns : tie.Need-returns
 returns c = rw (c .before .operand2 .ensures, c .before .before .operand .ensures, c .before .before .before .length-of .ensures) (sym (decoded-where _ _ _ (sym (c .before .before .before .before .is-defined .ensures) ∙ c .if1 .taken)))
 
--- src/instruction.rt:36:1
 returns-2 : tie.Need-returns-2
 returns-2 c = sym (decoded-where-not _ _ _ (sym (c .before .before .before .before .is-defined .ensures) ∙ c .if1 .left))
 

@@ -10,20 +10,16 @@ use mathlib.Core.Bool.{true, false, _&&_, _||_}
 use lib.Dec.{leb, eqb}
 use Rattle.opcodes.specs.Instruction.{encodeOf}
 
--- src/instruction.rt:54:9
 is-defined-requires : tie.Need-is-defined-requires
 is-defined-requires c κs = search needs
 
--- src/instruction.rt:55:9
 length-of-requires : tie.Need-length-of-requires
 length-of-requires c κs = search needs
 
--- src/instruction.rt:51:1
 returns : tie.Need-returns
 unfolding encodeOf
 returns c = let s = c .before .before .before in let n = c .before .length-of .result in let own : c .before .before .is-defined .result && ((leb 2 n || eqb (s .args .a) 0) && (leb 3 n || eqb (s .args .b) 0)) ≡ true = c .if1 .taken in rw (← c .before .before .is-defined .ensures, ← c .before .length-of .ensures, own)
 
--- src/instruction.rt:51:1
 returns-2 : tie.Need-returns-2
 unfolding encodeOf
 returns-2 c = let s = c .before .before .before in let n = c .before .length-of .result in let own : c .before .before .is-defined .result && ((leb 2 n || eqb (s .args .a) 0) && (leb 3 n || eqb (s .args .b) 0)) ≡ false = c .if1 .left in rw (← c .before .before .is-defined .ensures, ← c .before .length-of .ensures, own)

@@ -22,36 +22,28 @@ nibble v op d n =
     eqb→eq (getD lengths (lower op) 0) v (else-passes (λ lo. eqb (getD lengths lo 0) v) 16 (lower op) (omega arith) n) in
     simp (ne-eqb op 0xD4 d) (sym e)
 
--- src/instruction.rt:19:9
 lower-requires : tie.Need-lower-requires
 lower-requires c κs = search needs
 
--- src/instruction.rt:16:1
 returns : tie.Need-returns
 unfolding lengthOf
 returns c = rw (c .if1 .taken)
 
--- src/instruction.rt:16:1
 returns-2 : tie.Need-returns-2
 returns-2 c = nibble _ (c .before .before .before .args .op) (omega arith) (omega arith)
 
--- src/instruction.rt:16:1
 returns-3 : tie.Need-returns-3
 returns-3 c = nibble _ (c .before .before .before .before .before .args .op) (omega arith) (omega arith)
 
--- src/instruction.rt:16:1
 returns-4 : tie.Need-returns-4
 returns-4 c = nibble _ (c .before .before .before .args .op) (omega arith) (omega arith)
 
--- src/instruction.rt:16:1
 returns-5 : tie.Need-returns-5
 returns-5 c = nibble _ (c .before .before .before .before .before .args .op) (omega arith) (omega arith)
 
--- src/instruction.rt:16:1
 returns-6 : tie.Need-returns-6
 returns-6 c = nibble _ (c .before .before .args .op) (omega arith) (omega arith)
 
--- src/instruction.rt:16:1
 returns-7 : tie.Need-returns-7
 returns-7 c = nibble _ (c .before .before .before .before .args .op) (omega arith) (omega arith)
 
