@@ -1,4 +1,4 @@
-// 01's examples and edges, run: those that are proved stand in specs/Examples.antt as one list. What this program writes has to be what
+// 01's examples and edges, run: those that are proved are the list of the room `proved`. What this program writes has to be what
 // the independent program tests/reference/edges.c writes. (Image lengths are looked at by what C calls.)
 use libc::STDOUT_FILENO;
 use machine::Machine;
@@ -10,7 +10,7 @@ use timers::Moving;
 use timers::Timer;
 ghost use mathlib.Core.Path.{_≡_};
 ghost use Prim.Native.Nat.{_<_};
-ghost use Rattle.examples.specs.Examples.{resting};
+ghost use Rattle.proved.specs.Examples.{resting};
 
 // 268 bytes of a new machine with these in R5 and FLAGS, at this program counter.
 fn fresh(r5: u8, flags: u8, pc: u8) -> [u8; 268] {

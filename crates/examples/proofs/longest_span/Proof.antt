@@ -4,7 +4,7 @@ use Rattle.examples.proofs.longest_span.Tie as tie
 use native.Mathlib.Omega.{arith}
 use Rattle.timers.specs.Timer.{LegalCounting}
 use Rattle.timers.proofs.Legal.{written-legal}
-use Rattle.examples.specs.Examples.{resting}
+use Rattle.proved.specs.Examples.{resting}
 
 resting-requires : tie.Need-resting-requires
 resting-requires c κs = search needs

@@ -37,7 +37,7 @@ use Rattle.interrupts.specs.Edges.{fell, latchedIf, latchedBy, movedByEdges, co
 use Rattle.interrupts.specs.Grants.{groupA, groupB, groupC, ordered, priorities, firstOf, granted, grantOf}
 use Rattle.interrupts.specs.Entry.{cleared, vectorOf, acknowledged, enteredOf}
 use Rattle.step.specs.Step.{grantedOr, actOn, actionOf, clockedOn, stepOf}
-use Rattle.examples.specs.Examples.{all, examples, resting, restingAt, registers, freshLoad, endsIn}
+use Rattle.proved.specs.Examples.{all, examples, resting, restingAt, registers, freshLoad, endsIn}
 
 pub examples-hold : T (all examples)
 unfolding examples laid packed addOf additionOf subOf subtractionOf differenceOf incOf decwOf sumOverflow differenceOverflow andOf logicFlags rlOf sraOf rotateFlags daOf byRows added afterAddition afterSubtraction dispOf movedBy iter latch orHighest setupOf dividerMovesT1 edgesMoveT1 settingOf kept tick ticked timerWritten endOf both cycle cycles toutWritten written heldIn placedIn placed withPc resetPlaces newOf standardOf readReg writeReg workingAt programByte entryOf opcodeMap lengthOf cyclesOf cycleMap holdsOf djnzDeed jrDeed deedOf outcomeOf jumped looped doneOf codeAt performOf executeAs executeOf withLast3 pushed pushedInside controlWith controlOf movingOf enabling countsAt movedTo seen shown cycleOf spanOf interruptsTo fell latchedIf latchedBy movedByEdges comparedOf groupA groupB groupC ordered priorities firstOf granted grantOf cleared vectorOf acknowledged enteredOf grantedOr actOn actionOf clockedOn stepOf
