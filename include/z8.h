@@ -60,7 +60,7 @@ extern "C" {
 
    It is legal, and no call answers Z8_REFUSED_MACHINE to it, exactly where each byte is within what is said beside it, places 80 to EF
    and F0 (hexadecimal) of the register file are zero, and so are bits 0 and 2 of TMR (F1), bits 6 and 7 of IRQ (FA) and bits 0 to 3 of
-   RP (FD). Every machine that a call leaves is legal. */
+   RP (FD). Every machine that a call writes is legal. */
 
 #define Z8_SAVED_LEN 268u
 
@@ -108,7 +108,8 @@ uint32_t z8_encode(uint8_t opcode, uint8_t first, uint8_t second,
 /* ---- Time ----
 
    data is the external data memory from address 0; the type says where it begins to answer (Z8_TYPE_Z8601). pins0 to pins3 are the levels at
-   the pins of ports 0 to 3, which matter where a port bit is an input. */
+   the pins of ports 0 to 3. A program reads them where a port bit is an input; of pins3 the falling edges of bits 0 to 3 are interrupt
+   requests too, and all eight bits become the last pins (Z8_AT_PORT3). */
 
 /* One step: the pins are compared with the last ones, an interrupt is granted or else one instruction executed, and the clock goes on by
    what that costs. Writes the machine, what was stored in data memory, the cycles (6 to 63), and how often T0 and T1 ended.
@@ -126,8 +127,9 @@ uint32_t z8_run(uint8_t *saved, size_t saved_len, const uint8_t *image, size_t i
                 uint8_t pins0, uint8_t pins1, uint8_t pins2, uint8_t pins3, uint32_t budget,
                 uint32_t *cycles, uint32_t *ends0, uint32_t *ends1);
 
-/* The clock alone, for any number of cycles: divider, both timers, T_OUT, the requests that their ends latch. No instruction is executed
-   and no pins are compared; P31 is as in the last pins. One division, whatever the span. Refuses with 7, 6. */
+/* The clock alone, for any number of cycles: divider, both timers, T_OUT, the requests that their ends latch, and the enable bit in TMR (F1)
+   that the end of a single pass clears. No instruction is executed and no pins are compared; P31 is as in the last pins. By division: a
+   long span takes no longer than a short one. Refuses with 7, 6. */
 uint32_t z8_span(uint8_t *saved, size_t saved_len, uint32_t span,
                  uint32_t *ends0, uint32_t *ends1);
 

@@ -17,7 +17,7 @@ use Rattle.alu.specs.FlagByte.{packed, laid, carry, decimal, half, isZer
 use Rattle.alu.specs.Arithmetic.{additionOf, addOf, adcOf, differenceOf, subtractionOf, subOf, sbcOf, cpOf, counted, incOf, decOf, incwOf, decwOf, sumOverflow, differenceOverflow}
 use Rattle.alu.specs.Logical.{logicFlags, andOf, orOf, xorOf, comOf, tmOf, tcmOf}
 use Rattle.alu.specs.Rotate.{rotateFlags, rlOf, rlcOf, rrOf, rrcOf, sraOf, swapOf}
-use Rattle.alu.specs.Decimal.{afterAddition, afterSubtraction, byRows, added, daOf}
+use Rattle.alu.specs.Decimal.{afterAddition, afterSubtraction, byRows, adjustedBy, daOf}
 
 abbrev pub ByteFlags : Flags → Type 0
 ByteFlags e = e .set < 256
@@ -187,7 +187,7 @@ fitting (By o) t =
 fitting NoRow t = tt
 
 pub da-byte : (v f : ℕ) → v < 256 → ByteAdjusted (daOf v f)
-unfolding daOf byRows afterAddition afterSubtraction added packed
+unfolding daOf byRows afterAddition afterSubtraction adjustedBy packed
 da-byte v f h =
     by-test ByteAdjusted (eqb (decimal f) 0)
     (λ t. fitting (byRows afterAddition v (carry f) (half f)) (rw (agree3 (λ x c k. fits (byRows afterAddition x c k)) (λ x c k. true) 256 2 2 refl v (carry f) (half f) h (omega arith) (omega arith)) tt))

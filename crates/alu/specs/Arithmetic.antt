@@ -4,6 +4,7 @@ use Prim.Native.Nat.{ℕ, _+_, _-_, _/_, _%_}
 use mathlib.Core.Bool.{not, _&&_}
 use lib.Dec.{ltb, eqb}
 use Rattle.word.specs.Choose.{oneIf}
+use Rattle.word.specs.Fields.{lower}
 use Rattle.word.specs.Words.{plus}
 use Rattle.alu.specs.declared.Flags.{Flags}
 use Rattle.alu.specs.declared.Outcome.{Outcome}
@@ -31,7 +32,7 @@ additionOf a b c =
       value = r;
       flags =
           page (to ((a + b + c) / 256)) (to (isZero r)) (to (sign8 r)) (to (sumOverflow (sign8 a) (sign8 b) (sign8 r))) (to 0)
-          (to ((a % 16 + b % 16 + c) / 16));
+          (to ((lower a + lower b + c) / 16));
     }
 
 unfoldable pub addOf : ℕ → ℕ → Outcome
@@ -45,7 +46,7 @@ adcOf a b read = additionOf a b (carry read)
 unfoldable pub differenceOf : ℕ → ℕ → ℕ → ℕ
 differenceOf a b c = (a + 256 - b - c) % 256
 
--- dst <-- dst - src - c. C and H: set "indicating a borrow"
+-- dst <-- dst - src - c. C and H: "set otherwise, indicating a 'borrow'"
 unfoldable pub subtractionOf : ℕ → ℕ → ℕ → Outcome
 subtractionOf a b c =
     let r : ℕ = differenceOf a b c in
@@ -53,7 +54,7 @@ subtractionOf a b c =
       value = r;
       flags =
           page (to (borrow a (b + c))) (to (isZero r)) (to (sign8 r)) (to (differenceOverflow (sign8 a) (sign8 b) (sign8 r))) (to 1)
-          (to (borrow (a % 16) (b % 16 + c)));
+          (to (borrow (lower a) (lower b + c)));
     }
 
 unfoldable pub subOf : ℕ → ℕ → Outcome

@@ -42,19 +42,19 @@ fits (row c₀ from to₀ h₀ low high add after) v c h =
     eqb c c₀ && (leb from (upper v) && (leb (upper v) to₀ && (eqb h h₀ && (leb low (lower v) && leb (lower v) high))))
 
 -- what the row makes of the byte. C: "see table above"; V: "undefined"; H and D unaffected
-unfoldable pub added : ℕ → ℕ → ℕ → Outcome
-added v add after =
+unfoldable pub adjustedBy : ℕ → ℕ → ℕ → Outcome
+adjustedBy v add after =
     let r : ℕ = (v + add) % 256 in
     record { value = r; flags = page (to after) (to (isZero r)) (to (sign8 r)) undefined unaffected unaffected }
 
 abbrev pub byRow : Row → ℕ → Outcome
-byRow (row c₀ from to₀ h₀ low high add after) v = added v add after
+byRow (row c₀ from to₀ h₀ low high add after) v = adjustedBy v add after
 
 -- the first row that is for this byte, C and H; a combination in no row changes nothing, flags included (HOUSE)
 unfoldable pub byRows : List Row → ℕ → ℕ → ℕ → Adjusted
 byRows [] v c h = NoRow
 byRows (r ∷ rs) v c h = pick (fits r v c h) (By (byRow r v)) (byRows rs v c h)
 
--- D of the flags read tells which instruction came before, and with it the rows
+-- the rows by D of the flags read: "this flag specifies what type of instruction was last executed" (5.2.5)
 unfoldable pub daOf : ℕ → ℕ → Adjusted
 daOf v read = pick (eqb (decimal read) 0) (byRows afterAddition v (carry read) (half read)) (byRows afterSubtraction v (carry read) (half read))

@@ -1,4 +1,4 @@
--- The FLAGS byte (5.2), and what a page of chapter 5 says of each flag. From bit 7 down: C Z S V D H F2 F1. A flag by itself
+-- The FLAGS byte (5.2), and what a page of chapter 5 says of each flag. "FLAGS from bit 7 down: C Z S V D H F2 F1." (01). A flag by itself
 -- is 0 or 1. Assumes nothing.
 use Prim.Native.Nat.{ℕ, _+_, _*_, _-_, _/_}
 use lib.Dec.{eqb}
@@ -36,10 +36,10 @@ pub data Flag : Type 0 where
   to : ℕ → Flag
 
 -- 1 where the flag is affected. An undefined flag stays (HOUSE).
-abbrev pub moves : Flag → ℕ
-moves unaffected = 0
-moves undefined = 0
-moves (to b) = 1
+abbrev pub affects : Flag → ℕ
+affects unaffected = 0
+affects undefined = 0
+affects (to b) = 1
 
 -- what an affected flag becomes
 abbrev pub becomes : Flag → ℕ
@@ -51,7 +51,7 @@ becomes (to b) = b
 abbrev pub page : Flag → Flag → Flag → Flag → Flag → Flag → Flags
 page c z s v d h =
     record {
-      affected = packed (moves c) (moves z) (moves s) (moves v) (moves d) (moves h);
+      affected = packed (affects c) (affects z) (affects s) (affects v) (affects d) (affects h);
       set = packed (becomes c) (becomes z) (becomes s) (becomes v) (becomes d) (becomes h);
     }
 

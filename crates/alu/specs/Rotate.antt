@@ -3,11 +3,13 @@ use Prim.Native.Nat.{ℕ, _+_, _*_, _/_, _%_}
 use mathlib.Core.Bool.{not}
 use lib.Dec.{eqb}
 use Rattle.word.specs.Choose.{oneIf}
+use Rattle.word.specs.Fields.{upper, lower}
 use Rattle.alu.specs.declared.Flags.{Flags}
 use Rattle.alu.specs.declared.Outcome.{Outcome}
 use Rattle.alu.specs.FlagByte.{carry, page, unaffected, undefined, to, isZero, sign8}
 
--- C: the bit rotated out. V: "if the sign of the destination changed during rotation". H and D unaffected.
+-- C: the bit rotated out. V: where the sign "of the destination [..] changed during rotation" (RLC's page; the others are cut off). H and D
+-- unaffected.
 unfoldable pub rotateFlags : ℕ → ℕ → ℕ → Flags
 rotateFlags out a r = page (to out) (to (isZero r)) (to (sign8 r)) (to (oneIf (not (eqb (sign8 a) (sign8 r))))) unaffected unaffected
 
@@ -39,5 +41,5 @@ sraOf a =
 -- the lower four bits and the upper four swapped. C and V: "undefined"
 unfoldable pub swapOf : ℕ → Outcome
 swapOf a =
-    let r : ℕ = a % 16 * 16 + a / 16 in
+    let r : ℕ = lower a * 16 + upper a in
     record { value = r; flags = page undefined (to (isZero r)) (to (sign8 r)) undefined unaffected unaffected }

@@ -4,12 +4,12 @@ use crate::Flags;
 use crate::Outcome;
 ghost use mathlib.Core.Path.{_≡_};
 ghost use Prim.Native.Nat.{_<_};
-ghost use Rattle.alu.specs.Decimal.{added, afterAddition, afterSubtraction, byRows, daOf};
+ghost use Rattle.alu.specs.Decimal.{adjustedBy, afterAddition, afterSubtraction, byRows, daOf};
 
 // What a row makes of the byte v: the number added, the carry after.
 fn by(v: u8, add: u8, after: u8) -> Adjusted
     requires { ⌜ after < 2 ⌝ }
-    ensures { λ r. ⌜ r ≡ Adjusted.By (added v add after) ⌝ }
+    ensures { λ r. ⌜ r ≡ Adjusted.By (adjustedBy v add after) ⌝ }
 {
     let value = std::num::wrapping_add_u8(v, add);
     let z = crate::one_if(value == 0);

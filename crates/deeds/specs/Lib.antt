@@ -1,3 +1,4 @@
 pub mod Modes
 pub mod Results
 pub mod Pages
+pub mod ForCode

@@ -9,7 +9,7 @@ use Rattle.opcodes.specs.declared.Two.{Two}
 use Rattle.opcodes.specs.declared.Two.the-variants.{WorkWork, WorkInd, RegReg, RegInd, RegImm, IndImm, WorkImm, WorkReg, RegWork, WorkIndexed, IndexedWork, IndWork, IndReg}
 use Rattle.opcodes.specs.declared.Target.{Target}
 use Rattle.opcodes.specs.declared.Target.the-variants.{Direct, Pair}
-use Rattle.opcodes.specs.Columns.{twoCost}
+use Rattle.machine.specs.Names.{FLAGS}
 use Rattle.machine.specs.State.{held}
 use Rattle.machine.specs.Registers.{readReg}
 use Rattle.machine.specs.Addresses.{workingAt, registerAt, indirectAt, workingIndirectAt, indexedAt, readPair}
@@ -17,11 +17,10 @@ use Rattle.machine.specs.declared.Machine.{Machine}
 use Rattle.machine.specs.declared.Pins.{Pins}
 use Rattle.deeds.specs.declared.Code.{Code}
 use Rattle.deeds.specs.declared.Operands.{Operands}
-use Rattle.deeds.specs.declared.Costed.{Costed}
 
 -- FLAGS, as they stand
 abbrev pub flagsOf : Machine → ℕ
-flagsOf m = held m 0xFC
+flagsOf m = held m FLAGS
 
 -- the working register that the upper nibble of a byte names, and the one that the lower names
 abbrev pub upperAt : Machine → ℕ → ℕ
@@ -61,14 +60,7 @@ operandsOf p m IndexedWork i = fromRegister p m (indexedAt p m (i .second) (lowe
 operandsOf p m IndWork i = fromRegister p m (workingIndirectAt p m (upper (i .first))) (lowerAt m (i .first))
 operandsOf p m IndReg i = fromRegister p m (indirectAt p m (i .second)) (registerAt m (i .first))
 
--- for the code: the operands with the cycles that the map has at their modes
-abbrev pub costedAt : Operands → ℕ → Costed
-costedAt o cycles = record { operands = o; cycles = cycles }
-
-abbrev pub costedOf : Two → Operands → Costed
-costedOf w o = costedAt o (twoCost w)
-
--- where a jump or a call goes: DA, the high byte first; or IRR, what the pair reads
+-- where a jump or a call goes: DA, the high byte first (see DECISIONS); or IRR, what the pair reads
 unfoldable pub targetOf : Pins → Machine → Target → Code → ℕ
 targetOf p m Direct i = wordOf (i .first) (i .second)
 targetOf p m Pair i = readPair p m (registerAt m (i .first))

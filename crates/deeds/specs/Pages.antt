@@ -12,7 +12,6 @@ use Rattle.alu.specs.Decimal.{daOf}
 use Rattle.alu.specs.Conditions.{holdsOf}
 use Rattle.alu.specs.declared.Adjusted.{Adjusted}
 use Rattle.alu.specs.declared.Adjusted.the-variants.{By, NoRow}
-use Rattle.opcodes.specs.Columns.{costOf}
 use Rattle.opcodes.specs.declared.Kind.{Kind}
 use Rattle.opcodes.specs.declared.Kind.the-variants.{Binary, Test, Unary, Paired, Call, Ccf, Clr, Da, Di, Djnz, Ei, Iret, Jp, Jr, Ld, Ldc, Ldci, Lde, Ldei, Nop, Pop, Push, Rcf, Ret, Scf, Srp}
 use Rattle.opcodes.specs.declared.Binary as binary
@@ -25,10 +24,11 @@ use Rattle.opcodes.specs.declared.Way.{Way}
 use Rattle.opcodes.specs.declared.Way.the-variants.{In, Out}
 use Rattle.opcodes.specs.declared.Target.{Target}
 use Rattle.opcodes.specs.declared.Target.the-variants.{Direct, Pair}
+use Rattle.machine.specs.Names.{FLAGS, RP}
 use Rattle.machine.specs.Registers.{readReg}
 use Rattle.machine.specs.Addresses.{workingIndirectAt, readPair}
 use Rattle.machine.specs.Memory.{programByte, dataByte}
-use Rattle.machine.specs.Stack.{stackByte, isInside}
+use Rattle.machine.specs.Stack.{stackByte, isInternal}
 use Rattle.machine.specs.declared.Machine.{Machine}
 use Rattle.machine.specs.declared.Pins.{Pins}
 use Rattle.deeds.specs.Modes.{flagsOf, upperAt, lowerAt, oneAt, operandsOf, targetOf}
@@ -37,7 +37,6 @@ use Rattle.deeds.specs.declared.Code.{Code}
 use Rattle.deeds.specs.declared.Transfer.{Transfer}
 use Rattle.deeds.specs.declared.Transfer.the-variants.{Dropped, ToRegister, ToMemory}
 use Rattle.deeds.specs.declared.Deed.{Deed}
-use Rattle.deeds.specs.declared.Planned.{Planned}
 use Rattle.deeds.specs.declared.Deed.the-variants as deed
 
 -- a byte to the register at an address; no flags affected
@@ -56,13 +55,13 @@ callDeed p m t i = deed.Call (targetOf p m t i)
 
 -- CCF, RCF, SCF: "No other flags affected"
 unfoldable pub ccfDeed : Machine → Deed
-ccfDeed m = load 0xFC (ccfOf (flagsOf m))
+ccfDeed m = load FLAGS (ccfOf (flagsOf m))
 
 unfoldable pub rcfDeed : Machine → Deed
-rcfDeed m = load 0xFC (rcfOf (flagsOf m))
+rcfDeed m = load FLAGS (rcfOf (flagsOf m))
 
 unfoldable pub scfDeed : Machine → Deed
-scfDeed m = load 0xFC (scfOf (flagsOf m))
+scfDeed m = load FLAGS (scfOf (flagsOf m))
 
 -- CLR: dst <-- 0
 unfoldable pub clrDeed : Pins → Machine → One → Code → Deed
@@ -184,9 +183,9 @@ pushDeed p m w i = deed.Push (readReg p m (oneAt p m w i))
 unfoldable pub retDeed : Pins → List ℕ → Machine → Deed
 retDeed p mem m = deed.Return (wordOf (stackByte p m mem 0) (stackByte p m mem 1))
 
--- SRP: RP <-- src, by the register's rule: its low nibble "always reads 0 (HOUSE)"
+-- SRP: RP <-- src, by the register's rule: "Bits 0-3 of the RP are always set to 0", and its low nibble "always reads 0 (HOUSE)"
 abbrev pub srpDeed : Code → Deed
-srpDeed i = load 0xFD (i .first)
+srpDeed i = load RP (i .first)
 
 -- all of chapter 5
 unfoldable pub deedOf : Pins → List ℕ → List ℕ → Machine → Kind → Code → Deed
@@ -217,8 +216,8 @@ deedOf p image mem m Ret i = retDeed p mem m
 deedOf p image mem m Scf i = scfDeed m
 deedOf p image mem m Srp i = srpDeed i
 
--- which of two figures in the map a deed costs, "Taken DJNZ, JR and JP cc 12, else 10. PUSH R 10 with internal stack, 12 external": true for
--- the first. The stack's kind is that before anything is written. Where a cell has one figure, nothing hangs on it.
+-- which of two figures in the map a deed costs, true for the first, which is the jump taken or the stack internal. The stack's kind is that
+-- before anything is written. Where a cell has one figure, nothing hangs on it.
 unfoldable pub outcomeOf : Machine → Deed → Bool
 outcomeOf m deed.Nothing = true
 outcomeOf m (deed.Move t) = true
@@ -226,7 +225,7 @@ outcomeOf m (deed.Store dst o) = true
 outcomeOf m (deed.StoreWord dst o) = true
 outcomeOf m (deed.Test e) = true
 outcomeOf m (deed.Block t r rr) = true
-outcomeOf m (deed.Push v) = isInside m
+outcomeOf m (deed.Push v) = isInternal m
 outcomeOf m (deed.Pop dst v) = true
 outcomeOf m (deed.Call a) = true
 outcomeOf m (deed.Return a) = true
@@ -234,10 +233,3 @@ outcomeOf m (deed.ReturnFromInterrupt flags a) = true
 outcomeOf m (deed.Jump taken a) = taken
 outcomeOf m (deed.Loop r v taken a) = taken
 outcomeOf m (deed.Interrupts on) = true
-
--- for the code: a deed with the cycles of its kind, which are the map's (`cycles-by-kind`)
-abbrev pub planOf : Deed → ℕ → Planned
-planOf d cycles = record { deed = d; cycles = cycles }
-
-abbrev pub plannedOf : Machine → Kind → Deed → Planned
-plannedOf m k d = planOf d (costOf k (outcomeOf m d))

@@ -9,7 +9,8 @@ use opcodes::Target;
 use opcodes::Two;
 ghost use mathlib.Core.Path.{_≡_};
 ghost use Rattle.machine.specs.State.{whole};
-ghost use Rattle.deeds.specs.Modes.{flagsOf, upperAt, lowerAt, oneAt, fromRegister, operandsOf, costedAt, costedOf, targetOf};
+ghost use Rattle.deeds.specs.Modes.{flagsOf, upperAt, lowerAt, oneAt, fromRegister, operandsOf, targetOf};
+ghost use Rattle.deeds.specs.ForCode.{costedAt, costedOf};
 
 // FLAGS, as they stand.
 pub fn flags(regs: &[u8; 256], k: Core) -> u8

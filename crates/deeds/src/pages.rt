@@ -19,9 +19,10 @@ use opcodes::Way;
 ghost use mathlib.Core.Bool.{true, false};
 ghost use mathlib.Core.Path.{_≡_};
 ghost use Rattle.machine.specs.State.{whole};
-ghost use Rattle.deeds.specs.Pages.{binaryDeed, testDeed, unaryDeed, pairedDeed, adjustDeed, daDeed, ldDeed, programMove, dataMove, pointedAt, ldcDeed, ldeDeed, ldciDeed, ldeiDeed, popDeed, pushDeed, retDeed, iretDeed, conditionOf, jpDeed, relative, jrDeed, djnzDeed, load, clrDeed, ccfDeed, rcfDeed, scfDeed, callDeed, deedOf, planOf, plannedOf};
+ghost use Rattle.deeds.specs.Pages.{binaryDeed, testDeed, unaryDeed, pairedDeed, adjustDeed, daDeed, ldDeed, programMove, dataMove, pointedAt, ldcDeed, ldeDeed, ldciDeed, ldeiDeed, popDeed, pushDeed, retDeed, iretDeed, conditionOf, jpDeed, relative, jrDeed, djnzDeed, load, clrDeed, ccfDeed, rcfDeed, scfDeed, callDeed, deedOf};
 ghost use Rattle.word.specs.Choose.{pick};
-ghost use Rattle.opcodes.specs.Columns.{unaryCost, pushCost, jumpCost};
+ghost use Rattle.opcodes.specs.ForCode.{unaryCost, pushCost, jumpCost};
+ghost use Rattle.deeds.specs.ForCode.{planOf, plannedOf};
 
 // The cycles stand where the kind is known; `opcodes` proves that they are the map's (`cycles-by-kind`).
 fn plan(deed: Deed, cycles: u8) -> Planned
@@ -246,13 +247,13 @@ fn either(first: bool, a: u8, b: u8) -> u8
 }
 
 // PUSH, by the kind of stack before anything is written. No opcode has PUSH r.
-fn push_cycles(w: One, inside: bool) -> u8
-    ensures { λ r. ⌜ r ≡ pushCost w inside ⌝ }
+fn push_cycles(w: One, internal: bool) -> u8
+    ensures { λ r. ⌜ r ≡ pushCost w internal ⌝ }
 {
     match w {
         One::Work => 10,
-        One::Reg => either(inside, 10, 12),
-        One::Ind => either(inside, 12, 14),
+        One::Reg => either(internal, 10, 12),
+        One::Ind => either(internal, 12, 14),
     }
 }
 
@@ -261,8 +262,8 @@ fn push(regs: &[u8; 256], k: Core, pins: Pins, w: One, i: Code) -> Planned
 {
     let a = crate::modes::one(regs, k, pins, w, i);
     let v = machine::registers::read(regs, k, pins, a);
-    let inside = machine::stack::is_inside(regs, k);
-    plan(Deed::Push(v), push_cycles(w, inside))
+    let internal = machine::stack::is_internal(regs, k);
+    plan(Deed::Push(v), push_cycles(w, internal))
 }
 
 fn call(regs: &[u8; 256], k: Core, pins: Pins, t: Target, i: Code) -> Planned

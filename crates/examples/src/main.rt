@@ -14,7 +14,7 @@ ghost use Rattle.proved.specs.Examples.{resting};
 
 // 268 bytes of a new machine with these in R5 and FLAGS, at this program counter.
 fn fresh(r5: u8, flags: u8, pc: u8) -> [u8; 268] {
-    let m = Machine::standard();
+    let m = Machine::default();
     let mut s = [0u8; 268];
     saved::save(&mut s, m);
     s[5] = r5;

@@ -1,9 +1,9 @@
 -- A legal machine stays legal through every instruction, and what is to be stored in data memory are bytes. Assumes nothing.
-use mathlib.Core.Bool.{Bool, true, false, not}
+use mathlib.Core.Bool.{Bool, true, false}
 use mathlib.Core.List.{List}
 use Prim.Native.Nat.{ℕ, _+_, _%_, _<_}
 use native.Mathlib.Omega.{arith}
-use lib.Dec.{eqb, lit<}
+use lib.Dec.{lit<}
 use Rattle.word.specs.Fields.{highByte, lowByte}
 use Rattle.word.specs.Words.{plus}
 use Rattle.word.proofs.Computed.{by-test}
@@ -16,11 +16,11 @@ use Rattle.opcodes.specs.declared.Entry.{Entry}
 use Rattle.opcodes.specs.declared.Entry.the-variants.{Blank, Of}
 use Rattle.opcodes.specs.declared.Kind.{Kind}
 use Rattle.machine.specs.State.{held, placed, withPc}
-use Rattle.machine.specs.Ports.{bitsIf}
+use Rattle.word.specs.Choose.{bitsIf}
 use Rattle.machine.specs.Registers.{readReg}
 use Rattle.machine.specs.Addresses.{readPair}
 use Rattle.machine.specs.Memory.{listOf}
-use Rattle.machine.specs.Stack.{Stacked, isInside, pushedInside, pushedOutside, pushed}
+use Rattle.machine.specs.Stack.{Stacked, isInternal, pushedInternal, pushedExternal, pushed}
 use Rattle.machine.specs.Legal.{mayHold, Legal}
 use Rattle.machine.specs.declared.Machine.{Machine}
 use Rattle.machine.specs.declared.Pins.{Pins}
@@ -104,8 +104,8 @@ FitStores Nothing = Unit {0}
 FitStores (At a b) = (a < 65536) × AllBytes (listOf b)
 
 pub pushed-fits : (m : Machine) (b : Bytes) → AllBytes (listOf b) → FitStores (pushed m b .stores)
-unfolding pushed pushedInside pushedOutside
-pushed-fits m b all = by-test (λ (s : Stacked). FitStores (s .stores)) (isInside m) (λ t. tt) (λ t. (omega arith, all))
+unfolding pushed pushedInternal pushedExternal
+pushed-fits m b all = by-test (λ (s : Stacked). FitStores (s .stores)) (isInternal m) (λ t. tt) (λ t. (omega arith, all))
 
 transfer-fits : (m : Machine) (t : Transfer) → FitTransfer t → FitStores (transferred m t .stores)
 unfolding transferred

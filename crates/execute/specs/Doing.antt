@@ -1,21 +1,19 @@
 -- What is written when a deed is done, and in which order (01 "Instructions"). Assumes nothing.
 use mathlib.Core.Bool.{Bool, true}
 use Prim.Native.Nat.{ℕ, _+_, _%_}
-use Rattle.word.specs.Choose.{pick}
+use Rattle.word.specs.Choose.{pick, bitsIf}
 use Rattle.word.specs.Fields.{highByte, lowByte}
 use Rattle.word.specs.Words.{plus}
 use Rattle.alu.specs.FlagByte.{laid}
 use Rattle.alu.specs.declared.Flags.{Flags}
 use Rattle.alu.specs.declared.Outcome.{Outcome}
 use Rattle.alu.specs.declared.WordOutcome.{WordOutcome}
+use Rattle.machine.specs.Names.{IMR, FLAGS}
 use Rattle.machine.specs.State.{held, placed, withPc}
-use Rattle.machine.specs.Ports.{bitsIf}
 use Rattle.machine.specs.Registers.{readReg, writeReg}
 use Rattle.machine.specs.Addresses.{readPair, writePair}
 use Rattle.machine.specs.Stack.{Stacked, pushed, raised}
 use Rattle.machine.specs.declared.Machine.{Machine}
-use Rattle.machine.specs.declared.Core.{Core}
-use Rattle.machine.specs.declared.stack.Pushed.{Pushed}
 use Rattle.machine.specs.declared.Pins.{Pins}
 use Rattle.machine.specs.declared.Bytes.the-variants.{One, Two}
 use Rattle.machine.specs.declared.Stores.the-variants.{Nothing, At}
@@ -27,9 +25,10 @@ use Rattle.deeds.specs.declared.Deed.the-variants as deed
 
 -- the affected flags, on the FLAGS byte that is in place by then
 unfoldable pub flagged : Machine → Flags → Machine
-flagged m e = placed m 0xFC (laid (flagsOf m) e)
+flagged m e = placed m FLAGS (laid (flagsOf m) e)
 
--- "A destination is stored first, then the affected flags, even when it is FLAGS (HOUSE)."
+-- "A destination is stored first, then the affected flags, even when it is FLAGS (HOUSE)." They are the deed's: they "go by the result, not
+-- by a reading back".
 unfoldable pub storedAt : Machine → ℕ → Outcome → Machine
 storedAt m dst o = flagged (writeReg m dst (o .value)) (o .flags)
 
@@ -44,6 +43,7 @@ noStores m = record { machine = m; stores = Nothing }
 abbrev pub then : (Machine → Machine) → Stacked → Stacked
 then f s = record { machine = f (s .machine); stores = s .stores }
 
+-- a transfer done: to no place, to the register at a by its rule, to data memory at a
 unfoldable pub transferred : Machine → Transfer → Stacked
 transferred m Dropped = noStores m
 transferred m (ToRegister a v) = noStores (writeReg m a v)
@@ -69,16 +69,17 @@ returned m to = withPc (raised m 2) to
 
 -- IMR (7) <-- 1 or 0: EI, DI, IRET. Its other bits stay.
 unfoldable pub interruptsTo : Machine → Bool → Machine
-interruptsTo m on = placed m 0xFB (held m 0xFB % 128 + bitsIf on 0x80)
+interruptsTo m on = placed m IMR (held m IMR % 128 + bitsIf on 0x80)
 
 -- IRET: FLAGS <-- @SP, PC <-- @SP, IMR (7) <-- 1, with SP written first
 unfoldable pub interruptReturned : Machine → ℕ → ℕ → Machine
-interruptReturned m flags to = interruptsTo (withPc (placed (raised m 3) 0xFC flags) to) true
+interruptReturned m flags to = interruptsTo (withPc (placed (raised m 3) FLAGS flags) to) true
 
 -- CALL pushes the address of the next instruction, its high byte lower
 unfoldable pub called : Machine → ℕ → Stacked
 called m to = then (λ n. withPc n to) (pushed m (Two (highByte (m .pc)) (lowByte (m .pc))))
 
+-- PC <-- to, where the jump is taken
 unfoldable pub jumped : Machine → Bool → ℕ → Machine
 jumped m taken to = pick taken (withPc m to) m
 
@@ -102,7 +103,3 @@ doneOf p m (deed.ReturnFromInterrupt flags a) = noStores (interruptReturned m fl
 doneOf p m (deed.Jump taken a) = noStores (jumped m taken a)
 doneOf p m (deed.Loop r v taken a) = noStores (looped m r v taken a)
 doneOf p m (deed.Interrupts on) = noStores (interruptsTo m on)
-
--- for the code: a machine's rest, and nothing to be stored
-abbrev pub noStoresBeside : Core → Pushed
-noStoresBeside k = record { k = k; stores = Nothing }

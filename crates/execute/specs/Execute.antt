@@ -8,10 +8,9 @@ use Rattle.opcodes.specs.Cycles.{cyclesOf}
 use Rattle.opcodes.specs.declared.Entry.{Entry}
 use Rattle.opcodes.specs.declared.Entry.the-variants.{Blank, Of}
 use Rattle.opcodes.specs.declared.Kind.{Kind}
-use Rattle.machine.specs.State.{whole, withPc}
-use Rattle.machine.specs.Memory.{programByte, storedIn}
+use Rattle.machine.specs.State.{withPc}
+use Rattle.machine.specs.Memory.{programThree, storedIn}
 use Rattle.machine.specs.declared.Machine.{Machine}
-use Rattle.machine.specs.declared.Core.{Core}
 use Rattle.machine.specs.declared.Pins.{Pins}
 use Rattle.machine.specs.declared.Stores.{Stores}
 use Rattle.machine.specs.declared.Stores.the-variants.{Nothing}
@@ -19,7 +18,6 @@ use Rattle.deeds.specs.Pages.{deedOf, outcomeOf}
 use Rattle.deeds.specs.declared.Code.{Code}
 use Rattle.deeds.specs.declared.Deed.{Deed}
 use Rattle.execute.specs.Doing.{doneOf}
-use Rattle.execute.specs.declared.Executed.{Executed}
 
 -- what an instruction comes to: 0 or a refusal's number, its cycles, what is to be stored in data memory, the machine
 pub record Execution : Type 0 where
@@ -34,7 +32,9 @@ memoryAfter m mem x = storedIn (m .kind) mem (x .stores)
 
 -- the bytes at the program counter, which "is modulo 65,536"
 unfoldable pub codeAt : List ℕ → ℕ → Code
-codeAt image pc = record { op = programByte image pc; first = programByte image (plus pc 1); second = programByte image (plus pc 2) }
+codeAt image pc =
+    let b = programThree image pc in
+    record { op = b .first; first = b .second; second = b .third }
 
 -- "opcode undefined": 5, "nothing changed"
 abbrev pub refusedOf : Machine → Execution
@@ -53,6 +53,7 @@ costing op p m d =
 unfoldable pub performOf : Pins → List ℕ → List ℕ → Machine → Kind → Code → Execution
 performOf p image mem m k i = costing (i .op) p (nextOf m i) (deedOf p image mem (nextOf m i) k i)
 
+-- a blank area of the map is refused, an instruction performed
 unfoldable pub executeAs : Pins → List ℕ → List ℕ → Machine → Entry → Code → Execution
 executeAs p image mem m Blank i = refusedOf m
 executeAs p image mem m (Of k) i = performOf p image mem m k i
@@ -62,10 +63,3 @@ unfoldable pub executeOf : Pins → List ℕ → List ℕ → Machine → Execut
 executeOf p image mem m =
     let i = codeAt image (m .pc) in
     executeAs p image mem m (entryOf (i .op)) i
-
--- for the code: the same beside a lent file
-abbrev pub executionOf : List ℕ → Executed → Execution
-executionOf file x = record { refusal = x .refusal; cycles = x .cycles; stores = x .stores; machine = whole file (x .k) }
-
-abbrev pub refused : Core → Executed
-refused k = record { refusal = opcodeUndefined; cycles = 0; stores = Nothing; k = k }

@@ -12,9 +12,11 @@ use machine::stack::Pushed;
 ghost use mathlib.Core.Path.{_≡_};
 ghost use Prim.Native.Nat.{_≤_};
 ghost use Rattle.machine.specs.State.{whole};
-ghost use Rattle.machine.specs.Ports.{bitsIf};
-ghost use Rattle.machine.specs.Stack.{stackedOf, pushed};
-ghost use Rattle.execute.specs.Doing.{flagged, storedAt, wordStoredAt, noStoresBeside, transferred, countedUp, pairCountedUp, blockMoved, popped, returned, interruptsTo, interruptReturned, called, jumped, looped, doneOf};
+ghost use Rattle.word.specs.Choose.{bitsIf};
+ghost use Rattle.machine.specs.Stack.{pushed};
+ghost use Rattle.execute.specs.Doing.{flagged, storedAt, wordStoredAt, transferred, countedUp, pairCountedUp, blockMoved, popped, returned, interruptsTo, interruptReturned, called, jumped, looped, doneOf};
+ghost use Rattle.machine.specs.ForCode.{stackedOf};
+ghost use Rattle.execute.specs.ForCode.{noStoresBeside};
 
 // The affected flags, on the FLAGS byte that is in place by now.
 fn lay(regs: &mut [u8; 256], k: Core, e: Flags) -> Core
@@ -180,7 +182,7 @@ fn djnz(regs: &mut [u8; 256], k: Core, r: u8, v: u8, taken: bool, to: u16) -> Co
 }
 
 // A deed done.
-pub fn carry_out(regs: &mut [u8; 256], k: Core, pins: Pins, d: Deed) -> Pushed
+pub fn do_deed(regs: &mut [u8; 256], k: Core, pins: Pins, d: Deed) -> Pushed
     ensures { λ r. ⌜ stackedOf (now (regs .exit)) r ≡ doneOf pins (whole (now (regs .entry)) k) d ⌝ }
 {
     match d {

@@ -11,7 +11,8 @@ use opcodes::Kind;
 ghost use mathlib.Core.Path.{_≡_};
 ghost use Rattle.opcodes.specs.Map.{entryOf};
 ghost use Rattle.machine.specs.State.{whole};
-ghost use Rattle.execute.specs.Execute.{executionOf, codeAt, refused, performOf, executeAs, executeOf};
+ghost use Rattle.execute.specs.Execute.{codeAt, performOf, executeAs, executeOf};
+ghost use Rattle.execute.specs.ForCode.{executionOf, refused};
 
 // What an instruction comes to, beside the file that was lent: 0 or a refusal's number, its cycles, what is to be stored in data memory,
 // and the rest of the machine.
@@ -64,7 +65,7 @@ pub fn perform(
     let at = machine::at_pc(k, next);
     let plan = deeds::pages::deed(regs, at, pins, image, mem, kind, i);
     let deed = plan.deed;
-    let done = doing::carry_out(regs, at, pins, deed);
+    let done = doing::do_deed(regs, at, pins, deed);
     let stores = done.stores;
     let after = done.k;
     Executed {

@@ -10,7 +10,7 @@ use lib.Dec.{lit<}
 use Rattle.word.specs.Fields.{highByte, lowByte}
 use Rattle.word.proofs.Computed.{by-test}
 use Rattle.timers.specs.Control.{settingOf}
-use Rattle.timers.specs.Clock.{LegalMoving, begun, edgeOf}
+use Rattle.timers.specs.Clock.{LegalMoving}
 use Rattle.timers.specs.declared.Spanned.{Spanned}
 use Rattle.timers.proofs.Legal.{edge-legal}
 use Rattle.timers.proofs.Theorems.{edge-within}

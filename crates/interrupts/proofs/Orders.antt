@@ -1,5 +1,5 @@
 -- Laws of the order of priorities. Assumes nothing.
-use mathlib.Core.Path.{_≡_, refl, ap, sym, _∙_, subst}
+use mathlib.Core.Path.{_≡_, refl, ap, _∙_, subst}
 use mathlib.Core.Bool.{Bool, true, false, _&&_}
 use mathlib.Core.List.{List, [], _∷_, _++_}
 use Prim.Native.Nat.{ℕ, zero, suc, _<_, _/_, _%_, _^_}
@@ -12,26 +12,27 @@ use Rattle.word.specs.Fields.{isSet}
 use Rattle.word.proofs.Computed.{NoneOf, and-left, and-right, at}
 use Rattle.interrupts.specs.declared.grants.Grant.{Grant}
 use Rattle.interrupts.specs.declared.grants.Grant.the-variants.{Nothing, Request}
-use Rattle.interrupts.specs.Grants.{groupA, groupB, groupC, ordered, priorities, firstOf, granted, orElse}
+use Rattle.interrupts.specs.Grants.{groupA, groupB, groupC, ordered, priorities, firstStanding, granted}
+use Rattle.interrupts.specs.ForCode.{orElse}
 
 module _ (standing : ℕ) where
   -- the first of two lists together is the first of the one, or else of the other
-  pub first-after : (xs ys : List ℕ) → firstOf (xs ++ ys) standing ≡ orElse (firstOf xs standing) (firstOf ys standing)
-  unfolding firstOf orElse
+  pub first-after : (xs ys : List ℕ) → firstStanding (xs ++ ys) standing ≡ orElse (firstStanding xs standing) (firstStanding ys standing)
+  unfolding firstStanding orElse
   first-after [] ys = refl
   first-after (n ∷ ns) ys = go (isSet n standing) (first-after ns ys)
     where
-      go : (b : Bool) → firstOf (ns ++ ys) standing ≡ orElse (firstOf ns standing) (firstOf ys standing)
-          → pick b (Request n) (firstOf (ns ++ ys) standing) ≡ orElse (pick b (Request n) (firstOf ns standing)) (firstOf ys standing)
+      go : (b : Bool) → firstStanding (ns ++ ys) standing ≡ orElse (firstStanding ns standing) (firstStanding ys standing)
+          → pick b (Request n) (firstStanding (ns ++ ys) standing) ≡ orElse (pick b (Request n) (firstStanding ns standing)) (firstStanding ys standing)
       go true e = refl
       go false e = e
 
-  pub first-of-three : (xs ys zs : List ℕ) → firstOf (xs ++ ys ++ zs) standing ≡ orElse (orElse (firstOf xs standing) (firstOf ys standing)) (firstOf zs standing)
-  first-of-three xs ys zs = first-after (xs ++ ys) zs ∙ ap (λ (g : Grant). orElse g (firstOf zs standing)) (first-after xs ys)
+  pub first-of-three : (xs ys zs : List ℕ) → firstStanding (xs ++ ys ++ zs) standing ≡ orElse (orElse (firstStanding xs standing) (firstStanding ys standing)) (firstStanding zs standing)
+  first-of-three xs ys zs = first-after (xs ++ ys) zs ∙ ap (λ (g : Grant). orElse g (firstStanding zs standing)) (first-after xs ys)
 
 -- where nothing stands, nothing is granted
-pub first-of-none : (xs : List ℕ) → firstOf xs 0 ≡ Nothing
-unfolding firstOf
+pub first-of-none : (xs : List ℕ) → firstStanding xs 0 ≡ Nothing
+unfolding firstStanding
 first-of-none [] = refl
 first-of-none (n ∷ ns) =
     let e : 0 / 2 ^ n % 2 ≡ 0 = rw (zero-div (2 ^ n)) in
@@ -63,12 +64,12 @@ is-nothing (Request k) = ⊥
 is : {x y : ℕ} → _≡_ {A = Grant} (Request x) (Request y) → x ≡ y
 is d = cc
 
-first-low : (ns : List ℕ) (standing n : ℕ) → T (all-low ns) → firstOf ns standing ≡ Request n → n < 6
-unfolding firstOf
+first-low : (ns : List ℕ) (standing n : ℕ) → T (all-low ns) → firstStanding ns standing ≡ Request n → n < 6
+unfolding firstStanding
 first-low [] standing n t e = absurd (subst (λ (g : Grant). is-nothing g) e tt)
 first-low (k ∷ ns) standing n t e = go (isSet k standing) e (λ d. first-low ns standing n (and-right (ltb k 6) (all-low ns) t) d)
   where
-    go : (b : Bool) → pick b (Request k) (firstOf ns standing) ≡ Request n → (firstOf ns standing ≡ Request n → n < 6) → n < 6
+    go : (b : Bool) → pick b (Request k) (firstStanding ns standing) ≡ Request n → (firstStanding ns standing ≡ Request n → n < 6) → n < 6
     go true d rest = rw (← is d) (ltb→lt k 6 (and-left (ltb k 6) (all-low ns) t))
     go false d rest = rest d
 
@@ -80,6 +81,6 @@ pub granted-low : (irq imr ipr n : ℕ) → ipr < 256 → granted irq imr ipr �
 unfolding granted
 granted-low irq imr ipr n h e = go (isSet 7 imr) e
   where
-    go : (b : Bool) → pick b (firstOf (priorities ipr) (bitAnd irq imr)) Nothing ≡ Request n → n < 6
+    go : (b : Bool) → pick b (firstStanding (priorities ipr) (bitAnd irq imr)) Nothing ≡ Request n → n < 6
     go true d = first-low (priorities ipr) (bitAnd irq imr) n (priorities-low ipr h) d
     go false d = absurd (subst (λ (g : Grant). is-nothing g) d tt)

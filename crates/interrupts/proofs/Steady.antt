@@ -1,5 +1,5 @@
 -- Where no pin fell, comparing the pins changes the last pins alone. Assumes nothing.
-use mathlib.Core.Path.{_≡_, refl, ap, ap₂, sym, _∙_}
+use mathlib.Core.Path.{_≡_, refl, ap₂, sym, _∙_}
 use mathlib.Core.Bool.{Bool, true, false, not, _&&_, _||_}
 use Prim.Native.Nat.{ℕ, zero, suc, _-_, _/_, _%_, _<_}
 use native.Mathlib.Omega.{arith}
@@ -13,7 +13,8 @@ use Rattle.machine.specs.State.{held, placed, withLast3}
 use Rattle.machine.specs.Clock.{movingOf, movedTo, countsAt}
 use Rattle.machine.specs.declared.Machine.{Machine}
 use Rattle.machine.proofs.Lens.{put-own, put-irq, put-other}
-use Rattle.interrupts.specs.Edges.{Comparison, fell, latchedIf, latchedBy, movedByEdges, comparedOf, anyFell}
+use Rattle.interrupts.specs.Edges.{Comparison, fell, latchedIf, latchedBy, movedByEdges, comparedOf}
+use Rattle.interrupts.specs.ForCode.{anyFell}
 
 -- the four pins are the lower four bits
 low-fell : (last given : ℕ) (n : ℕ) → n < 4 → fell n last given ≡ fell n (last % 16) (given % 16)

@@ -1,9 +1,6 @@
 -- Falling edges of the Port 3 pins (01 "One step"; 004, 10.2.1 and 11.5). Assumes nothing.
 use mathlib.Core.Bool.{Bool, not, _&&_}
-use mathlib.Core.List.{List}
-use Prim.Native.Nat.{ℕ, _-_, _%_}
-use lib.Dec.{eqb}
-use lib.Bits.{bitAnd}
+use Prim.Native.Nat.{ℕ}
 use Rattle.word.specs.Choose.{pick}
 use Rattle.word.specs.Fields.{isSet}
 use Rattle.timers.specs.Requests.{latch}
@@ -11,10 +8,9 @@ use Rattle.timers.specs.Control.{settingOf}
 use Rattle.timers.specs.Clock.{begun, edgeOf}
 use Rattle.timers.specs.declared.Moving.{Moving}
 use Rattle.timers.specs.declared.Spanned.{Spanned}
-use Rattle.machine.specs.State.{whole, withLast3}
+use Rattle.machine.specs.State.{withLast3}
 use Rattle.machine.specs.Clock.{controlOf, movingOf, movedTo}
 use Rattle.machine.specs.declared.Machine.{Machine}
-use Rattle.interrupts.specs.declared.edges.Compared.{Compared}
 
 -- pin n of Port 3 was high in the last pins, and is low in those given
 unfoldable pub fell : ℕ → ℕ → ℕ → Bool
@@ -52,10 +48,3 @@ unfoldable pub comparedOf : Machine → ℕ → Comparison
 comparedOf m given =
     let x = movedByEdges m given in
     record { machine = withLast3 (movedTo m (x .now)) given; ends1 = x .ends1 }
-
--- For the code: beside a lent file; and whether any of the four pins fell, in one test.
-abbrev pub comparisonOf : List ℕ → Compared → Comparison
-comparisonOf file c = record { machine = whole file (c .k); ends1 = c .ends1 }
-
-unfoldable pub anyFell : ℕ → ℕ → Bool
-anyFell last given = not (eqb (bitAnd (last % 16) (15 - given % 16)) 0)

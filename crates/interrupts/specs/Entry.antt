@@ -4,6 +4,7 @@ use mathlib.Core.List.{List}
 use Prim.Native.Nat.{ℕ, _+_, _-_, _*_, _^_}
 use lib.Bits.{bitAnd}
 use Rattle.word.specs.Fields.{wordOf, highByte, lowByte}
+use Rattle.machine.specs.Names.{IRQ}
 use Rattle.machine.specs.State.{held, placed, withPc}
 use Rattle.machine.specs.Memory.{programByte}
 use Rattle.machine.specs.Stack.{Stacked, pushed}
@@ -26,7 +27,7 @@ vectorOf image n = wordOf (programByte image (vectorAt n)) (programByte image (v
 -- what follows the push: "clears its request and bit 7 of IMR, and jumps", so they are clear also in bytes that the push has just stored
 -- to FA or FB
 unfoldable pub acknowledged : List ℕ → ℕ → Machine → Machine
-acknowledged image n m = withPc (interruptsTo (placed m 0xFA (cleared n (held m 0xFA))) false) (vectorOf image n)
+acknowledged image n m = withPc (interruptsTo (placed m IRQ (cleared n (held m IRQ))) false) (vectorOf image n)
 
 -- request n entered: "A pushed address has its high byte lower; an interrupt's FLAGS lie below it."
 unfoldable pub enteredOf : List ℕ → Machine → ℕ → Stacked

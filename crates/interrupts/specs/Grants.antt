@@ -5,6 +5,7 @@ use lib.Bits.{bitAnd}
 use lib.ListN.{getD}
 use Rattle.word.specs.Choose.{pick}
 use Rattle.word.specs.Fields.{bitOf, isSet}
+use Rattle.machine.specs.Names.{IPR, IRQ, IMR}
 use Rattle.machine.specs.State.{held}
 use Rattle.machine.specs.declared.Machine.{Machine}
 use Rattle.interrupts.specs.declared.grants.Grant.{Grant}
@@ -54,19 +55,14 @@ unfoldable pub priorities : ℕ → List ℕ
 priorities ipr = ordered (groupOrder ipr) (groupA ipr) (groupB ipr) (groupC ipr)
 
 -- the first of these whose bit is set in `standing`
-unfoldable pub firstOf : List ℕ → ℕ → Grant
-firstOf [] standing = Nothing
-firstOf (n ∷ ns) standing = pick (isSet n standing) (Request n) (firstOf ns standing)
+unfoldable pub firstStanding : List ℕ → ℕ → Grant
+firstStanding [] standing = Nothing
+firstStanding (n ∷ ns) standing = pick (isSet n standing) (Request n) (firstStanding ns standing)
 
 -- "A grant needs IMR bit 7, the request and its mask bit." Standing are requests whose mask bit is set too, and priority is among them: "the
 -- highest priority level that is enabled" (004, 10.3).
 unfoldable pub granted : ℕ → ℕ → ℕ → Grant
-granted irq imr ipr = pick (isSet 7 imr) (firstOf (priorities ipr) (bitAnd irq imr)) Nothing
+granted irq imr ipr = pick (isSet 7 imr) (firstStanding (priorities ipr) (bitAnd irq imr)) Nothing
 
 unfoldable pub grantOf : Machine → Grant
-grantOf m = granted (held m 0xFA) (held m 0xFB) (held m 0xF9)
-
--- For the code: the first grant, or else the second.
-unfoldable pub orElse : Grant → Grant → Grant
-orElse Nothing second = second
-orElse (Request n) second = Request n
+grantOf m = granted (held m IRQ) (held m IMR) (held m IPR)

@@ -1,3 +1,4 @@
 pub mod Edges
 pub mod Grants
 pub mod Entry
+pub mod ForCode

@@ -6,7 +6,8 @@ ghost use mathlib.Core.Path.{_≡_};
 ghost use Prim.Native.Nat.{_<_};
 ghost use Rattle.machine.specs.State.{whole, held};
 ghost use Rattle.machine.specs.Legal.{Legal};
-ghost use Rattle.interrupts.specs.Edges.{fell, latchedIf, latchedBy, movedByEdges, comparedOf, comparisonOf, anyFell};
+ghost use Rattle.interrupts.specs.Edges.{fell, latchedIf, latchedBy, movedByEdges, comparedOf};
+ghost use Rattle.interrupts.specs.ForCode.{comparisonOf, anyFell};
 
 // The rest of a machine whose pins were compared, beside the file that was lent, and T1's ends by that.
 pub struct Compared {

@@ -5,7 +5,7 @@ use machine::stack::Pushed;
 ghost use mathlib.Core.Path.{_≡_};
 ghost use Prim.Native.Nat.{_<_};
 ghost use Rattle.machine.specs.State.{whole};
-ghost use Rattle.machine.specs.Stack.{stackedOf};
+ghost use Rattle.machine.specs.ForCode.{stackedOf};
 ghost use Rattle.interrupts.specs.Entry.{cleared, vectorOf, enteredOf};
 
 // IRQ with request n cleared.

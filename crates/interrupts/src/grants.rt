@@ -2,7 +2,8 @@
 ghost use mathlib.Core.Path.{_≡_};
 ghost use mathlib.Core.List.{[], _∷_};
 ghost use Prim.Native.Nat.{_<_};
-ghost use Rattle.interrupts.specs.Grants.{groupOrder, groupA, groupB, groupC, priorities, firstOf, granted, orElse};
+ghost use Rattle.interrupts.specs.Grants.{groupOrder, groupA, groupB, groupC, priorities, firstStanding, granted};
+ghost use Rattle.interrupts.specs.ForCode.{orElse};
 
 pub enum Grant {
     Nothing,
@@ -31,7 +32,7 @@ fn of_three(x: Grant, y: Grant, z: Grant) -> Grant
 fn of_two(standing: u8, higher: u8, lower: u8) -> Grant
     requires { ⌜ higher < 8 ⌝ }
     requires { ⌜ lower < 8 ⌝ }
-    ensures { λ r. ⌜ r ≡ firstOf (higher ∷ lower ∷ []) standing ⌝ }
+    ensures { λ r. ⌜ r ≡ firstStanding (higher ∷ lower ∷ []) standing ⌝ }
 {
     let first = word::is_set(higher, standing);
     let second = word::is_set(lower, standing);
@@ -46,7 +47,7 @@ fn of_two(standing: u8, higher: u8, lower: u8) -> Grant
 }
 
 fn of_group_a(standing: u8, ipr: u8) -> Grant
-    ensures { λ r. ⌜ r ≡ firstOf (groupA ipr) standing ⌝ }
+    ensures { λ r. ⌜ r ≡ firstStanding (groupA ipr) standing ⌝ }
 {
     let swapped = word::is_set(5, ipr);
     if swapped {
@@ -57,7 +58,7 @@ fn of_group_a(standing: u8, ipr: u8) -> Grant
 }
 
 fn of_group_b(standing: u8, ipr: u8) -> Grant
-    ensures { λ r. ⌜ r ≡ firstOf (groupB ipr) standing ⌝ }
+    ensures { λ r. ⌜ r ≡ firstStanding (groupB ipr) standing ⌝ }
 {
     let swapped = word::is_set(2, ipr);
     if swapped {
@@ -68,7 +69,7 @@ fn of_group_b(standing: u8, ipr: u8) -> Grant
 }
 
 fn of_group_c(standing: u8, ipr: u8) -> Grant
-    ensures { λ r. ⌜ r ≡ firstOf (groupC ipr) standing ⌝ }
+    ensures { λ r. ⌜ r ≡ firstStanding (groupC ipr) standing ⌝ }
 {
     let swapped = word::is_set(1, ipr);
     if swapped {
@@ -89,7 +90,7 @@ fn group_order(ipr: u8) -> u8
 
 // The highest request by IPR that stands.
 fn highest(standing: u8, ipr: u8) -> Grant
-    ensures { λ r. ⌜ r ≡ firstOf (priorities ipr) standing ⌝ }
+    ensures { λ r. ⌜ r ≡ firstStanding (priorities ipr) standing ⌝ }
 {
     let a = of_group_a(standing, ipr);
     let b = of_group_b(standing, ipr);

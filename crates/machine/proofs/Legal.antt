@@ -12,19 +12,19 @@ use Rattle.word.specs.Choose.{pick}
 use Rattle.word.specs.Fields.{upper, lower, highByte, lowByte}
 use Rattle.word.specs.Words.{plus}
 use Rattle.word.proofs.Computed.{by-test, below, at, under, and-left, and-right}
-use Rattle.timers.specs.Control.{Bytes, settingOf, kept}
+use Rattle.timers.specs.Control.{ControlBytes, settingOf, kept}
 use Rattle.timers.specs.Timer.{LegalCounting}
 use Rattle.timers.specs.Clock.{cycles, written, LegalSetting, LegalMoving}
 use Rattle.timers.specs.declared.Timer.{Timer}
 use Rattle.timers.specs.declared.Moving.{Moving}
 use Rattle.timers.proofs.Legal.{setting-legal, written-legal, cycles-legal}
 use Rattle.machine.specs.State.{heldIn, placedIn, held, placed, withPc, withLast3}
-use Rattle.machine.specs.Ports.{masked, port0Lines, port1Lines, port2Lines, port3Lines, linesOf, portStores, portReads, pinsOf, ofPort}
+use Rattle.machine.specs.Ports.{masked, port0Directions, port1Directions, port2Directions, port3Directions, directionsOf, portStores, portReads, pinsOf, ofPort}
 use Rattle.machine.specs.Clock.{controlWith, controlOf, movingOf, enabling, countsAt, movedTo, writeTmr, spanOf, shown}
-use Rattle.machine.specs.Registers.{isHole, isWriteOnly, portLines, readPort, writePort, readReg, writeReg}
+use Rattle.machine.specs.Registers.{isHole, isWriteOnly, portDirections, readPort, writePort, readReg, writeReg}
 use Rattle.machine.specs.Addresses.{workingAt, registerAt, indexedAt, evenOf, readPair, writePair}
-use Rattle.machine.specs.Stack.{Stacked, spl, spOf, spSet, writtenFrom, pushedInside, pushedOutside, pushed, stackByte, raised, isInside}
-use Rattle.machine.specs.Start.{Place, placedAll, resetPlaces, resetOf, newOf, startedWith, standardOf, madeOf, isKind, isCost}
+use Rattle.machine.specs.Stack.{Stacked, spl, spOf, spSet, writtenFrom, pushedInternal, pushedExternal, pushed, stackByte, raised, isInternal}
+use Rattle.machine.specs.Start.{Place, placedAll, resetPlaces, resetOf, newOf, startedWith, defaultOf, madeOf, isKind, isCost}
 use Rattle.machine.specs.Legal.{mayHold, LegalFile, Legal}
 use Rattle.machine.specs.Memory.{programByte, dataStart, dataByte, listOf}
 use Rattle.machine.specs.declared.Machine.{Machine}
@@ -136,12 +136,12 @@ pub record ByteLines (d : Directions) : Type 0 where
 byte-of : (f : ℕ → ℕ) → T (below (λ x. ltb (f x) 256) 256) → (x : ℕ) → x < 256 → f x < 256
 byte-of f t x h = ltb→lt (f x) 256 (at (λ y. ltb (f y) 256) 256 t x h)
 
-lines-bytes : (p01m p2m n : ℕ) → p01m < 256 → p2m < 256 → ByteLines (linesOf p01m p2m n)
-unfolding linesOf port0Lines port1Lines port2Lines port3Lines
+lines-bytes : (p01m p2m n : ℕ) → p01m < 256 → p2m < 256 → ByteLines (directionsOf p01m p2m n)
+unfolding directionsOf port0Directions port1Directions port2Directions port3Directions
 lines-bytes p01m p2m n g h =
-    of-port ByteLines n (port0Lines p01m) (port1Lines p01m) (port2Lines p2m) port3Lines
-    (record { inputs-byte = byte-of (λ x. port0Lines x .inputs) tt p01m g; address-byte = byte-of (λ x. port0Lines x .address) tt p01m g })
-    (record { inputs-byte = byte-of (λ x. port1Lines x .inputs) tt p01m g; address-byte = byte-of (λ x. port1Lines x .address) tt p01m g })
+    of-port ByteLines n (port0Directions p01m) (port1Directions p01m) (port2Directions p2m) port3Directions
+    (record { inputs-byte = byte-of (λ x. port0Directions x .inputs) tt p01m g; address-byte = byte-of (λ x. port0Directions x .address) tt p01m g })
+    (record { inputs-byte = byte-of (λ x. port1Directions x .inputs) tt p01m g; address-byte = byte-of (λ x. port1Directions x .address) tt p01m g })
     (record { inputs-byte = h; address-byte = lit< tt })
     (record { inputs-byte = lit< tt; address-byte = lit< tt })
 
@@ -168,15 +168,15 @@ rp-may v h = at (λ x. mayHold 0xFD (upper x * 16)) 256 tt v h
 
 -- what a register reads is a byte
 module _ {m : Machine} (l : Legal m) where
-  port-lines : (a : ℕ) → ByteLines (portLines m a)
+  port-lines : (a : ℕ) → ByteLines (portDirections m a)
   port-lines a = lines-bytes (held m 0xF8) (held m 0xF6) a (l .file .bytes 0xF8) (l .file .bytes 0xF6)
 
   pub read-byte : (p : Pins) (a : ℕ) → LegalPins p → readReg p m a < 256
   unfolding readReg readPort portReads
   read-byte p a lp =
       by-test B (ltb a 0x04)
-      (λ t. masked-byte (portLines m a .address) 0xFF _ (port-lines a .address-byte) (lit< tt)
-      (masked-byte (portLines m a .inputs) (pinsOf p a) (held m a) (port-lines a .inputs-byte) (pins-byte p a lp) (l .file .bytes a))) (λ t.
+      (λ t. masked-byte (portDirections m a .address) 0xFF _ (port-lines a .address-byte) (lit< tt)
+      (masked-byte (portDirections m a .inputs) (pinsOf p a) (held m a) (port-lines a .inputs-byte) (pins-byte p a lp) (l .file .bytes a))) (λ t.
       by-test B (isHole a) (λ u. lit< tt) (λ u.
       by-test B (isWriteOnly a) (λ u. lit< tt) (λ u.
       by-test B (eqb a 0xF2) (λ u. omega arith) (λ u.
@@ -191,10 +191,10 @@ module _ {m : Machine} (l : Legal m) where
   unfolding writePort portStores mayHold
   port-legal a v h hv =
       placed-legal a _ l (omega arith)
-      (masked-byte (portLines m a .address) (held m a) v (port-lines a .address-byte) (l .file .bytes a) hv)
-      (under (ltb a 0x04) _ (at (λ x. not (ltb x 0x04) || mayHold x (masked (portLines m a .address) (held m a) v)) 256 tt a (omega arith)) (lt-ltb a 0x04 h))
+      (masked-byte (portDirections m a .address) (held m a) v (port-lines a .address-byte) (l .file .bytes a) hv)
+      (under (ltb a 0x04) _ (at (λ x. not (ltb x 0x04) || mayHold x (masked (portDirections m a .address) (held m a) v)) 256 tt a (omega arith)) (lt-ltb a 0x04 h))
 
-  registers-bytes : (tmr : ℕ) → Bytes (controlWith m tmr)
+  registers-bytes : (tmr : ℕ) → ControlBytes (controlWith m tmr)
   unfolding controlWith
   registers-bytes tmr =
       record { t1-byte = l .file .bytes 0xF2; pre1-byte = l .file .bytes 0xF3; t0-byte = l .file .bytes 0xF4; pre0-byte = l .file .bytes 0xF5 }
@@ -243,9 +243,9 @@ unfolding spSet mayHold
 sp-legal sp l h = spl-legal (lowByte sp) (placed-legal 0xFE (highByte sp) l (lit< tt) (omega arith) tt) (omega arith)
 
 pub pushed-legal : {m : Machine} (b : bytes.Bytes) → Legal m → AllBytes (listOf b) → Legal (pushed m b .machine)
-unfolding pushed pushedInside pushedOutside
+unfolding pushed pushedInternal pushedExternal
 pushed-legal {m} b l all =
-    by-test (λ (s : Stacked). Legal (s .machine)) (isInside m)
+    by-test (λ (s : Stacked). Legal (s .machine)) (isInternal m)
     (λ t. from-legal sp (listOf b) (spl-legal sp l (omega arith)) (omega arith) all)
     (λ t. sp-legal (plus (spOf m) (65536 - length (listOf b))) l (omega arith))
   where
@@ -255,7 +255,7 @@ pushed-legal {m} b l all =
 pub raised-legal : {m : Machine} (n : ℕ) → Legal m → Legal (raised m n)
 unfolding raised
 raised-legal {m} n l =
-    by-test Legal (isInside m) (λ t. spl-legal ((spl m + n) % 256) l (omega arith)) (λ t. sp-legal (plus (spOf m) n) l (omega arith))
+    by-test Legal (isInternal m) (λ t. spl-legal ((spl m + n) % 256) l (omega arith)) (λ t. sp-legal (plus (spOf m) n) l (omega arith))
 
 -- ---- reset and the new machine
 abbrev fits : Place → Bool
@@ -352,20 +352,20 @@ span-legal {m} n l =
     rw (span-is m (l .file .long) (l .file .bytes 0xF1) n)
     (moved-legal (cycles (settingOf (controlOf m)) n (movingOf m) .now) l (cycles-legal (settingOf (controlOf m)) (setting-of l) n (movingOf m) (l .moving)))
 
-pub standard-legal : Legal standardOf
-unfolding standardOf
-standard-legal = new-legal 11 20 tt tt
+pub default-legal : Legal defaultOf
+unfolding defaultOf
+default-legal = new-legal 11 20 tt tt
 
 pub made-legal : (kind cost : ℕ) → Legal (madeOf kind cost .machine)
 unfolding madeOf
 made-legal kind cost = go (isKind kind && isCost cost) refl
   where
     go : (b : Bool) → isKind kind && isCost cost ≡ b
-        → Legal (pick {A = Made} b (record { refusal = 0; machine = newOf kind cost }) (record { refusal = 3; machine = standardOf }) .machine)
+        → Legal (pick {A = Made} b (record { refusal = 0; machine = newOf kind cost }) (record { refusal = 3; machine = defaultOf }) .machine)
     go true e =
         let t : T (isKind kind && isCost cost) = rw e tt in
         new-legal kind cost (and-left (isKind kind) (isCost cost) t) (and-right (isKind kind) (isCost cost) t)
-    go false e = standard-legal
+    go false e = default-legal
 
 -- ---- addresses, words and bytes read
 pub working-byte : (m : Machine) (x : ℕ) → Legal m → x < 16 → workingAt m x < 256
@@ -396,4 +396,4 @@ data-byte kind mem a bytes = by-test (λ v. v < 256) (ltb a (dataStart kind)) (�
 pub stack-byte : (p : Pins) (m : Machine) (mem : List ℕ) (i : ℕ) → Legal m → LegalPins p → ((i : ℕ) → getD mem i 0xFF < 256) → stackByte p m mem i < 256
 unfolding stackByte
 stack-byte p m mem i l lp bytes =
-    by-test (λ v. v < 256) (isInside m) (λ t. read-byte l p ((spl m + i) % 256) lp) (λ t. data-byte (m .kind) mem (plus (spOf m) i) bytes)
+    by-test (λ v. v < 256) (isInternal m) (λ t. read-byte l p ((spl m + i) % 256) lp) (λ t. data-byte (m .kind) mem (plus (spOf m) i) bytes)

@@ -10,18 +10,20 @@ use lib.Bits.{bitAnd}
 use Rattle.word.proofs.Computed.{made, agree}
 use Rattle.timers.specs.Iter.{iter}
 use Rattle.timers.specs.Control.{settingOf, enable0, enable1, toutMode, tinMode}
-use Rattle.timers.specs.Clock.{cycle, cycles, begun, fewCycles, LegalSetting, LegalMoving}
+use Rattle.timers.specs.Clock.{cycle, cycles, begun, LegalSetting, LegalMoving}
 use Rattle.timers.specs.declared.Moving.{Moving}
 use Rattle.timers.specs.declared.Setting.{Setting}
 use Rattle.timers.specs.declared.Spanned.{Spanned}
 use Rattle.timers.proofs.Cycles.{counting, few-is}
 use Rattle.timers.proofs.Theorems.{cycles-within}
 use Rattle.machine.specs.State.{placedIn, coreOf, held, placed}
-use Rattle.machine.specs.Clock.{Ran, ranOf, controlWith, controlOf, movingOf, enabling, countingAt, countsAt, movedTo, seen, shown, cycleOf, spanOf}
+use Rattle.machine.specs.Clock.{Ran, controlWith, controlOf, movingOf, enabling, countingAt, countsAt, movedTo, seen, shown, cycleOf, spanOf}
 use Rattle.machine.specs.declared.Machine.{Machine}
 use Rattle.machine.specs.declared.Core.{Core}
 use Rattle.machine.specs.declared.clock.Clocked.{Clocked}
 use Rattle.machine.proofs.Places.{place-long, held-same, held-other, place-own, places-again}
+use Rattle.timers.specs.ForCode.{fewCycles}
+use Rattle.machine.specs.ForCode.{ranOf}
 
 -- a rule of a byte and two truth values, computed at all of them
 pub every : {A : Type 0} (f g : Bool → Bool → ℕ → A)

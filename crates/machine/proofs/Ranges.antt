@@ -7,9 +7,10 @@ use borrow.Author.Tests.{le-ltb, le-leb, lt-leb, ne-eqb}
 use lib.Dec.{T, leb, ltb, leb→le, ltb→lt}
 use Rattle.word.proofs.Computed.{and-left, and-right}
 use Rattle.machine.specs.State.{held, placed}
-use Rattle.machine.specs.Registers.{isGeneral, readReg, writeReg}
+use Rattle.machine.specs.Registers.{readReg, writeReg}
 use Rattle.machine.specs.declared.Machine.{Machine}
 use Rattle.machine.specs.declared.Pins.{Pins}
+use Rattle.machine.specs.ForCode.{isGeneral}
 
 pub hole-reads : (p : Pins) (m : Machine) (a : ℕ) → 0x80 ≤ a → a ≤ 0xF0 → 0xFF ≡ readReg p m a
 unfolding readReg

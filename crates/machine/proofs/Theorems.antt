@@ -12,7 +12,7 @@ use Rattle.word.specs.Fields.{bitOf, lower}
 use Rattle.word.proofs.Computed.{by-test, agree}
 use Rattle.timers.specs.Requests.{latch}
 use Rattle.timers.specs.Control.{settingOf, setupOf}
-use Rattle.timers.specs.Clock.{written, endOf, both, cycle, cycles, begun, atDivider, Which, T0, T1, setupFor, countingFor, endsFor, gone, Steady}
+use Rattle.timers.specs.Clock.{endOf, tickBoth, cycle, cycles, begun, atDivider, Which, T0, T1, setupFor, countingFor, endsFor, gone, Steady}
 use Rattle.timers.specs.declared.Setup.{Setup}
 use Rattle.timers.specs.declared.Setting.{Setting}
 use Rattle.timers.specs.declared.Source.the-variants.{Divider}
@@ -97,8 +97,8 @@ module _ (m : Machine) where
   abbrev Low : ℕ → Spanned → Type 0
   Low irq x = x .now .lines .irq % 16 ≡ irq % 16
 
-  both-leave : (irq : ℕ) (x : Spanned) → Low irq x → Low irq (both Divider set x)
-  unfolding both settingOf setupOf
+  both-leave : (irq : ℕ) (x : Spanned) → Low irq x → Low irq (tickBoth Divider set x)
+  unfolding tickBoth settingOf setupOf
   both-leave irq x e =
       iter-keeps (endOf (set .t1)) L (λ l h. end-leaves (set .t1) refl l ∙ h) _ _
       (iter-keeps (endOf (set .t0)) L (λ l h. end-leaves (set .t0) refl l ∙ h) _ (x .now .lines) e)

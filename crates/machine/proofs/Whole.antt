@@ -9,16 +9,17 @@ use Rattle.word.specs.Words.{plus}
 use Rattle.word.proofs.Computed.{by-test}
 use Rattle.timers.specs.Clock.{written}
 use Rattle.timers.proofs.Iterate.{iter-keeps}
-use Rattle.machine.specs.State.{placedIn, whole, placed, atPc, atLast3, withLast3, withPc, keeping}
+use Rattle.machine.specs.State.{placedIn, whole, placed, atPc, atLast3, withLast3, withPc}
 use Rattle.machine.specs.Clock.{movingOf, countsAt, movedTo, writeTmr, Ran, shown, cycleOf, spanOf}
 use Rattle.machine.specs.Registers.{isHole, writePort, writeReg}
 use Rattle.machine.specs.Addresses.{evenOf, writePair}
 use Rattle.machine.specs.Memory.{listOf}
-use Rattle.machine.specs.Stack.{Stacked, stackedOf, isInside, spl, spOf, spSet, writtenFrom, pushedInside, pushedOutside, pushed, raised}
+use Rattle.machine.specs.Stack.{Stacked, isInternal, spl, spOf, spSet, writtenFrom, pushedInternal, pushedExternal, pushed, raised}
 use Rattle.machine.specs.declared.Machine.{Machine}
 use Rattle.machine.specs.declared.Core.{Core}
 use Rattle.machine.specs.declared.Bytes.{Bytes}
 use Rattle.machine.specs.declared.stack.Pushed.{Pushed}
+use Rattle.machine.specs.ForCode.{keeping, stackedOf}
 
 pub placed-is : {file : List ℕ} {k : Core} {m : Machine} (a v : ℕ) → whole file k ≡ m → whole (placedIn file a v) k ≡ placed m a v
 unfolding placed
@@ -79,16 +80,16 @@ from-keeps m a [] = itself m
 from-keeps m a (v ∷ vs) = keeps-on (write-keeps m a v) (from-keeps (writeReg m a v) ((a + 1) % 256) vs)
 
 pub push-keeps : (m : Machine) (b : Bytes) → Keeps m (pushed m b .machine)
-unfolding pushed pushedInside pushedOutside spSet
+unfolding pushed pushedInternal pushedExternal spSet
 push-keeps m b =
-    by-test (λ (s : Stacked). Keeps m (s .machine)) (isInside m)
+    by-test (λ (s : Stacked). Keeps m (s .machine)) (isInternal m)
     (λ t. keeps-on (place-keeps m 0xFF _) (from-keeps (placed m 0xFF ((spl m + (256 - length (listOf b))) % 256)) ((spl m + (256 - length (listOf b))) % 256) (listOf b)))
     (λ t. keeps-on (place-keeps m 0xFE _) (place-keeps (placed m 0xFE (highByte (plus (spOf m) (65536 - length (listOf b))))) 0xFF _))
 
 pub raise-keeps : (m : Machine) (n : ℕ) → Keeps m (raised m n)
 unfolding raised spSet
 raise-keeps m n =
-    by-test (Keeps m) (isInside m)
+    by-test (Keeps m) (isInternal m)
     (λ t. place-keeps m 0xFF _)
     (λ t. keeps-on (place-keeps m 0xFE _) (place-keeps (placed m 0xFE (highByte (plus (spOf m) n))) 0xFF _))
 

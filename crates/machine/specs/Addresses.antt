@@ -3,6 +3,7 @@ use Prim.Native.Nat.{ℕ, _+_, _*_, _/_, _%_}
 use lib.Dec.{eqb}
 use Rattle.word.specs.Choose.{pick}
 use Rattle.word.specs.Fields.{upper, lower, wordOf, highByte, lowByte}
+use Rattle.machine.specs.Names.{RP}
 use Rattle.machine.specs.State.{held}
 use Rattle.machine.specs.Registers.{readReg, writeReg}
 use Rattle.machine.specs.declared.Machine.{Machine}
@@ -10,7 +11,7 @@ use Rattle.machine.specs.declared.Pins.{Pins}
 
 -- r: "the 4-bit address is concatenated with the upper four bits of the Register Pointer" (004, 3.2)
 unfoldable pub workingAt : Machine → ℕ → ℕ
-workingAt m x = upper (held m 0xFD) * 16 + x
+workingAt m x = upper (held m RP) * 16 + x
 
 -- R: "An operand byte Ex in a register, indirect-register or pair field means working register x of the group in RP."
 unfoldable pub registerAt : Machine → ℕ → ℕ

@@ -1,6 +1,5 @@
 -- What the timers read and move of a machine, and the machine's own cycles (01 "The timers"). Assumes nothing.
 use mathlib.Core.Bool.{Bool}
-use mathlib.Core.List.{List}
 use Prim.Native.Nat.{ℕ}
 use lib.Bits.{bitAnd, bitOr}
 use Rattle.timers.specs.Iter.{iter}
@@ -10,35 +9,35 @@ use Rattle.timers.specs.declared.Control.{Control}
 use Rattle.timers.specs.declared.Timer.{Timer}
 use Rattle.timers.specs.declared.Moving.{Moving}
 use Rattle.timers.specs.declared.Spanned.{Spanned}
-use Rattle.machine.specs.Ports.{bitsIf}
+use Rattle.machine.specs.Names.{TMR, T1, PRE1, T0, PRE0, IRQ}
+use Rattle.word.specs.Choose.{bitsIf}
 use Rattle.machine.specs.State.{whole, coreOf, held, placed}
 use Rattle.machine.specs.declared.Machine.{Machine}
 use Rattle.machine.specs.declared.Core.{Core}
-use Rattle.machine.specs.declared.clock.Clocked.{Clocked}
 
--- what the timers read, with this byte for TMR: registers F2 to F5 hold start values and prescalers; "P31 is as in the last pins"
+-- what the timers read, with this byte for TMR: F2 to F5 hold start values and prescaler fields; "P31 is as in the last pins"
 unfoldable pub controlWith : Machine → ℕ → Control
 controlWith m tmr =
-    record { tmr = tmr; t1 = held m 0xF2; pre1 = held m 0xF3; t0 = held m 0xF4; pre0 = held m 0xF5; port3 = m .last3 }
+    record { tmr = tmr; t1 = held m T1; pre1 = held m PRE1; t0 = held m T0; pre0 = held m PRE0; port3 = m .last3 }
 
 unfoldable pub controlOf : Machine → Control
-controlOf m = controlWith m (held m 0xF1)
+controlOf m = controlWith m (held m TMR)
 
 -- what cycles move: the divider, the counts in progress with the enable bits that stand in TMR, IRQ, T_OUT
 unfoldable pub movingOf : Machine → Moving
 movingOf m =
     record {
       divider = m .divider;
-      t0 = record { timer = m .t0; enabled = enable0 (held m 0xF1) };
-      t1 = record { timer = m .t1; enabled = enable1 (held m 0xF1) };
-      lines = record { irq = held m 0xFA; tout = m .tout };
+      t0 = record { timer = m .t0; enabled = enable0 (held m TMR) };
+      t1 = record { timer = m .t1; enabled = enable1 (held m TMR) };
+      lines = record { irq = held m IRQ; tout = m .tout };
     }
 
 -- TMR with these enable bits, 1 for T0 and 3 for T1
 unfoldable pub enabling : ℕ → Bool → Bool → ℕ
 enabling tmr on0 on1 = bitOr (bitAnd tmr 0xF5) (bitOr (bitsIf on0 0x02) (bitsIf on1 0x08))
 
--- a machine, as its rest and whole, with other counts: divider, both timers, T_OUT
+-- the rest of a machine, and a machine, with other counts: divider, both timers, T_OUT
 abbrev pub countingAt : Core → ℕ → Timer → Timer → Bool → Core
 countingAt k divider t0 t1 tout =
     record {
@@ -61,21 +60,18 @@ countsAt m x = whole (m .regs) (coreAt (coreOf m) x)
 -- the machine with all that cycles move as given: the counts, the enable bits in TMR, and IRQ
 unfoldable pub movedTo : Machine → Moving → Machine
 movedTo m x =
-    placed (placed (countsAt m x) 0xF1 (enabling (held m 0xF1) (x .t0 .enabled) (x .t1 .enabled))) 0xFA (x .lines .irq)
+    placed (placed (countsAt m x) TMR (enabling (held m TMR) (x .t0 .enabled) (x .t1 .enabled))) IRQ (x .lines .irq)
 
 -- a write to TMR: "Writing a load bit copies P and N, sets T_OUT to 1 if the byte written chooses that timer, and reads back 0. The
 -- divider isn't touched."
 unfoldable pub writeTmr : Machine → ℕ → Machine
-writeTmr m v = placed (countsAt m (written (controlWith m v) (movingOf m))) 0xF1 (kept v)
+writeTmr m v = placed (countsAt m (written (controlWith m v) (movingOf m))) TMR (kept v)
 
 -- a machine, and each timer's ends so far
 pub record Ran : Type 0 where
   pub machine : Machine
   pub ends0 : ℕ
   pub ends1 : ℕ
-
-abbrev pub ranOf : List ℕ → Clocked → Ran
-ranOf file r = record { machine = whole file (r .k); ends0 = r .ends0; ends1 = r .ends1 }
 
 -- what cycles move of it, and put back into a machine
 unfoldable pub seen : Ran → Spanned

@@ -8,6 +8,7 @@ use lib.ListN.{length}
 use Rattle.word.specs.Choose.{pick}
 use Rattle.word.specs.Fields.{bitOf, lower}
 use Rattle.timers.specs.Clock.{LegalMoving}
+use Rattle.machine.specs.Names.{TMR, IRQ, RP}
 use Rattle.machine.specs.State.{heldIn}
 use Rattle.machine.specs.Registers.{isHole}
 use Rattle.machine.specs.Clock.{movingOf}
@@ -18,9 +19,9 @@ use Rattle.machine.specs.declared.Machine.{Machine}
 unfoldable pub mayHold : ℕ → ℕ → Bool
 mayHold a v =
     pick (isHole a) (eqb v 0)
-    (pick (eqb a 0xF1) (eqb (bitOf 0 v) 0 && eqb (bitOf 2 v) 0)
-    (pick (eqb a 0xFA) (eqb (bitOf 6 v) 0 && eqb (bitOf 7 v) 0)
-    (pick (eqb a 0xFD) (eqb (lower v) 0) true)))
+    (pick (eqb a TMR) (eqb (bitOf 0 v) 0 && eqb (bitOf 2 v) 0)
+    (pick (eqb a IRQ) (eqb (bitOf 6 v) 0 && eqb (bitOf 7 v) 0)
+    (pick (eqb a RP) (eqb (lower v) 0) true)))
 
 -- a file of 256 bytes, as every file in code is by its type, in which each place holds what it may
 pub record LegalFile (file : List ℕ) : Type 0 where
@@ -28,8 +29,8 @@ pub record LegalFile (file : List ℕ) : Type 0 where
   pub bytes : (a : ℕ) → heldIn file a < 256
   pub places : (a : ℕ) → T (mayHold a (heldIn file a))
 
--- `moving` says "divider 0 to 3; prescalers 1 to 64", and that a counter is 1 to 256; T_OUT is 0 or 1 by its type, as the program counter
--- is a word and the last pins a byte.
+-- `moving` says "divider 0 to 3; prescalers 1 to 64", and that a counter is 1 to 256. T_OUT is 0 or 1 by its type. `pc-word` and
+-- `last3-byte` say what in code the types say.
 pub record Legal (m : Machine) : Type 0 where
   pub file : LegalFile (m .regs)
   pub pc-word : m .pc < 65536

@@ -1,3 +1,4 @@
+pub mod Names
 pub mod State
 pub mod Ports
 pub mod Clock
@@ -7,3 +8,4 @@ pub mod Memory
 pub mod Stack
 pub mod Start
 pub mod Legal
+pub mod ForCode

@@ -4,7 +4,7 @@
 use mathlib.Core.List.{List, [], _∷_}
 use Prim.Native.Nat.{ℕ}
 use lib.Dec.{eqb, ltb}
-use lib.ListN.{getD, length, set}
+use lib.ListN.{getD, set}
 use Rattle.word.specs.Choose.{pick}
 use Rattle.word.specs.Words.{plus}
 use Rattle.machine.specs.declared.Bytes.{Bytes}
@@ -17,12 +17,9 @@ use Rattle.machine.specs.declared.Stores.the-variants.{Nothing, At}
 unfoldable pub programByte : List ℕ → ℕ → ℕ
 programByte image a = getD image a 0xFF
 
--- for the code: three bytes from an address on, as a fetch reads them; and how much of an image addresses reach
+-- three bytes from an address on, modulo 65,536, as a fetch reads them
 abbrev pub programThree : List ℕ → ℕ → Triple
 programThree image a = record { first = programByte image a; second = programByte image (plus a 1); third = programByte image (plus a 2) }
-
-abbrev pub reachOf : List ℕ → ℕ
-reachOf image = pick (ltb (length image) 65536) (length image) 65536
 
 -- data addresses under 2,048 (type 1) or 4,096 (type 11) are none
 abbrev pub dataStart : ℕ → ℕ

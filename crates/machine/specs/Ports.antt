@@ -3,7 +3,7 @@ use mathlib.Core.Bool.{Bool}
 use Prim.Native.Nat.{ℕ, _-_, _/_, _%_}
 use lib.Dec.{eqb, leb}
 use lib.Bits.{bitAnd, bitOr}
-use Rattle.word.specs.Choose.{pick}
+use Rattle.word.specs.Choose.{pick, bitsIf}
 use Rattle.machine.specs.declared.Pins.{Pins}
 use Rattle.machine.specs.declared.ports.Directions.{Directions}
 
@@ -15,13 +15,9 @@ isInput mode = eqb mode 1
 abbrev pub isAddress : ℕ → Bool
 isAddress mode = leb 2 mode
 
--- these bits where the test holds, else none
-abbrev pub bitsIf : Bool → ℕ → ℕ
-bitsIf test bits = pick test bits 0
-
 -- Port 0, "nibble [..] mode from P01M": bits 7 and 6 for P04 to P07, bits 1 and 0 for P00 to P03
-unfoldable pub port0Lines : ℕ → Directions
-port0Lines p01m =
+unfoldable pub port0Directions : ℕ → Directions
+port0Directions p01m =
     let high = p01m / 64 in
     let low = p01m % 4 in
     record {
@@ -30,25 +26,25 @@ port0Lines p01m =
     }
 
 -- Port 1, "byte mode from P01M": bits 4 and 3
-unfoldable pub port1Lines : ℕ → Directions
-port1Lines p01m =
+unfoldable pub port1Directions : ℕ → Directions
+port1Directions p01m =
     let mode = p01m / 8 % 4 in
     record { inputs = bitsIf (isInput mode) 0xFF; address = bitsIf (isAddress mode) 0xFF }
 
 -- "A P2M bit that is set means input."
-unfoldable pub port2Lines : ℕ → Directions
-port2Lines p2m = record { inputs = p2m; address = 0 }
+unfoldable pub port2Directions : ℕ → Directions
+port2Directions p2m = record { inputs = p2m; address = 0 }
 
 -- "P3 bits 0 to 3 are inputs, 4 to 7 outputs."
-unfoldable pub port3Lines : Directions
-port3Lines = record { inputs = 0x0F; address = 0 }
+unfoldable pub port3Directions : Directions
+port3Directions = record { inputs = 0x0F; address = 0 }
 
 -- of what ports 0 to 3 have, that of port n
 abbrev pub ofPort : {A : Type 0} → ℕ → A → A → A → A → A
 ofPort n p0 p1 p2 p3 = pick (eqb n 0) p0 (pick (eqb n 1) p1 (pick (eqb n 2) p2 p3))
 
-unfoldable pub linesOf : ℕ → ℕ → ℕ → Directions
-linesOf p01m p2m n = ofPort n (port0Lines p01m) (port1Lines p01m) (port2Lines p2m) port3Lines
+unfoldable pub directionsOf : ℕ → ℕ → ℕ → Directions
+directionsOf p01m p2m n = ofPort n (port0Directions p01m) (port1Directions p01m) (port2Directions p2m) port3Directions
 
 -- the pins of port n, as given with the call
 unfoldable pub pinsOf : Pins → ℕ → ℕ

@@ -6,8 +6,9 @@ use lib.Dec.{eqb, ltb, leb}
 use lib.Bits.{bitAnd}
 use Rattle.word.specs.Choose.{pick}
 use Rattle.word.specs.Fields.{upper, lowByte}
+use Rattle.machine.specs.Names.{TMR, T1, T0, P2M, P01M, IRQ, IMR, RP}
 use Rattle.machine.specs.State.{held, placed}
-use Rattle.machine.specs.Ports.{linesOf, pinsOf, portReads, portStores}
+use Rattle.machine.specs.Ports.{directionsOf, pinsOf, portReads, portStores}
 use Rattle.machine.specs.Clock.{writeTmr}
 use Rattle.machine.specs.declared.Machine.{Machine}
 use Rattle.machine.specs.declared.Pins.{Pins}
@@ -21,19 +22,15 @@ isHole a = leb 0x80 a && leb a 0xF0
 abbrev pub isWriteOnly : ℕ → Bool
 isWriteOnly a = eqb a 0xF3 || (leb 0xF5 a && leb a 0xF9)
 
--- the general-purpose registers, R4 to R127, which are what they hold (004, 3.2)
-abbrev pub isGeneral : ℕ → Bool
-isGeneral a = leb 0x04 a && ltb a 0x80
-
 -- a port's directions, by P01M and P2M
-abbrev pub portLines : Machine → ℕ → Directions
-portLines m a = linesOf (held m 0xF8) (held m 0xF6) a
+abbrev pub portDirections : Machine → ℕ → Directions
+portDirections m a = directionsOf (held m P01M) (held m P2M) a
 
 unfoldable pub readPort : Pins → Machine → ℕ → ℕ
-readPort p m a = portReads (portLines m a) (pinsOf p a) (held m a)
+readPort p m a = portReads (portDirections m a) (pinsOf p a) (held m a)
 
 unfoldable pub writePort : Machine → ℕ → ℕ → Machine
-writePort m a v = placed m a (portStores (portLines m a) (held m a) v)
+writePort m a v = placed m a (portStores (portDirections m a) (held m a) v)
 
 -- what register a reads: "F2 and F4 read the count in progress, 256 as 0." IMR's bit 6 "is not implemented, though reading this bit
 -- returns 0" (004, 10.8).
@@ -42,9 +39,9 @@ readReg p m a =
     pick (ltb a 0x04) (readPort p m a)
     (pick (isHole a) 0xFF
     (pick (isWriteOnly a) 0xFF
-    (pick (eqb a 0xF2) (lowByte (m .t1 .counter))
-    (pick (eqb a 0xF4) (lowByte (m .t0 .counter))
-    (pick (eqb a 0xFB) (bitAnd (held m a) 0xBF)
+    (pick (eqb a T1) (lowByte (m .t1 .counter))
+    (pick (eqb a T0) (lowByte (m .t0 .counter))
+    (pick (eqb a IMR) (bitAnd (held m a) 0xBF)
     (held m a))))))
 
 -- a store of v to register a: a hole drops it, TMR (F1) acts on its load bits, IRQ (FA) drops bits 6 and 7 (HOUSE), and RP (FD) its low
@@ -53,7 +50,7 @@ unfoldable pub writeReg : Machine → ℕ → ℕ → Machine
 writeReg m a v =
     pick (ltb a 0x04) (writePort m a v)
     (pick (isHole a) m
-    (pick (eqb a 0xF1) (writeTmr m v)
-    (pick (eqb a 0xFA) (placed m a (v % 64))
-    (pick (eqb a 0xFD) (placed m a (upper v * 16))
+    (pick (eqb a TMR) (writeTmr m v)
+    (pick (eqb a IRQ) (placed m a (v % 64))
+    (pick (eqb a RP) (placed m a (upper v * 16))
     (placed m a v)))))

@@ -6,6 +6,7 @@ use lib.Dec.{eqb, leb}
 use lib.ListN.{replicate}
 use Rattle.word.specs.Choose.{pick}
 use Rattle.timers.specs.declared.Timer.{Timer}
+use Rattle.machine.specs.Names.{SIO, TMR, T1, PRE1, T0, PRE0, P2M, P3M, P01M, IPR, IRQ, IMR, FLAGS, RP, SPH, SPL}
 use Rattle.machine.specs.State.{placedIn}
 use Rattle.machine.specs.declared.Machine.{Machine}
 use Rattle.machine.specs.declared.start.Made.{Made}
@@ -26,9 +27,9 @@ placedAll file (p ∷ ps) = placedAll (placedIn file (p .address) (p .byte)) ps
 unfoldable pub resetPlaces : List Place
 resetPlaces =
     holding 0x00 0 ∷ holding 0x01 0 ∷ holding 0x02 0 ∷ holding 0x03 0
-    ∷ holding 0xF0 0 ∷ holding 0xF1 0 ∷ holding 0xF2 0 ∷ holding 0xF3 0 ∷ holding 0xF4 0 ∷ holding 0xF5 0
-    ∷ holding 0xF6 0xFF ∷ holding 0xF7 0 ∷ holding 0xF8 0x4D
-    ∷ holding 0xF9 0 ∷ holding 0xFA 0 ∷ holding 0xFB 0 ∷ holding 0xFC 0 ∷ holding 0xFD 0 ∷ holding 0xFE 0 ∷ holding 0xFF 0
+    ∷ holding SIO 0 ∷ holding TMR 0 ∷ holding T1 0 ∷ holding PRE1 0 ∷ holding T0 0 ∷ holding PRE0 0
+    ∷ holding P2M 0xFF ∷ holding P3M 0 ∷ holding P01M 0x4D
+    ∷ holding IPR 0 ∷ holding IRQ 0 ∷ holding IMR 0 ∷ holding FLAGS 0 ∷ holding RP 0 ∷ holding SPH 0 ∷ holding SPL 0
     ∷ []
 
 -- "prescalers 64, counters saved as 0", which is 256
@@ -59,8 +60,8 @@ unfoldable pub newOf : ℕ → ℕ → Machine
 newOf kind cost = startedWith (replicate 256 0) kind cost
 
 -- "A new machine: type 11 and entry cost 20 unless others are named"
-unfoldable pub standardOf : Machine
-standardOf = newOf 11 20
+unfoldable pub defaultOf : Machine
+defaultOf = newOf 11 20
 
 -- "type 1 or 11", "entry cost 6 to 63"
 abbrev pub isKind : ℕ → Bool
@@ -75,4 +76,4 @@ unfoldable pub madeOf : ℕ → ℕ → Made
 madeOf kind cost =
     pick (isKind kind && isCost cost)
     (record { refusal = 0; machine = newOf kind cost })
-    (record { refusal = 3; machine = standardOf })
+    (record { refusal = 3; machine = defaultOf })

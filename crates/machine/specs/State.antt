@@ -1,4 +1,6 @@
--- The machine, and the places of its register file. Assumes nothing.
+-- The machine, and the places of its register file (01 "Numbers the encoder sees"). Of a `Machine`, `regs` is the register file, `pc` the program
+-- counter, `divider` the divider, `t0` and `t1` the counts in progress, `last3` the last Port 3 pins, `tout` the T_OUT level, `kind` the type, 1 or 11, and
+-- `cost` the interrupt entry cost. A `Core` is the same without the file; below it is called the machine's rest. Assumes nothing.
 use mathlib.Core.List.{List}
 use Prim.Native.Nat.{ℕ}
 use lib.ListN.{getD, set}
@@ -6,7 +8,8 @@ use Rattle.machine.specs.declared.Machine.{Machine}
 use Rattle.machine.specs.declared.Core.{Core}
 
 -- "The register file is kept as 256 places in address order. Places 0 to 3 hold output latches, F2 and F4 hold start values". What the
--- place of register a holds, and the file with v in it: only these two look up a place by its register's address.
+-- place of register a holds, and the file with v in it: of a machine, only these two look up a place by its register's address. (`legalOf` of
+-- `saved` looks at bytes before there is a machine.)
 unfoldable pub heldIn : List ℕ → ℕ → ℕ
 heldIn file a = getD file a 0
 
@@ -48,7 +51,7 @@ held m a = heldIn (m .regs) a
 unfoldable pub placed : Machine → ℕ → ℕ → Machine
 placed m a v = whole (placedIn (m .regs) a v) (coreOf m)
 
--- a machine, as its rest and whole, at another program counter
+-- the rest of a machine, and a machine, at another program counter
 abbrev pub atPc : Core → ℕ → Core
 atPc k pc =
     record {
@@ -81,17 +84,3 @@ atLast3 k port3 =
 
 unfoldable pub withLast3 : Machine → ℕ → Machine
 withLast3 m port3 = whole (m .regs) (atLast3 (coreOf m) port3)
-
--- the rest of a machine with other counts and T_OUT, n's: what a store may move of it
-abbrev pub keeping : Core → Core → Core
-keeping k n =
-    record {
-      pc = k .pc;
-      divider = k .divider;
-      t0 = n .t0;
-      t1 = n .t1;
-      last3 = k .last3;
-      tout = n .tout;
-      kind = k .kind;
-      cost = k .cost;
-    }

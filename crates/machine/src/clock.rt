@@ -7,8 +7,9 @@ use timers::Moving;
 use timers::Timer;
 ghost use mathlib.Core.Path.{_≡_};
 ghost use Rattle.machine.specs.State.{whole};
-ghost use Rattle.machine.specs.Clock.{controlWith, controlOf, movingOf, enabling, coreAt, countingAt, movedTo, writeTmr, ranOf, spanOf};
+ghost use Rattle.machine.specs.Clock.{controlWith, controlOf, movingOf, enabling, coreAt, countingAt, movedTo, writeTmr, spanOf};
 ghost use Rattle.machine.specs.Legal.{Legal};
+ghost use Rattle.machine.specs.ForCode.{ranOf};
 
 // A machine's rest, beside the file that was lent, and each timer's ends.
 pub struct Clocked {

@@ -10,8 +10,9 @@ pub mod start;
 
 use timers::Timer;
 ghost use mathlib.Core.Path.{_≡_};
-ghost use Rattle.machine.specs.State.{whole, coreOf, atPc, atLast3, keeping};
-ghost use Rattle.machine.specs.Ports.{bitsIf};
+ghost use Rattle.machine.specs.State.{whole, coreOf, atPc, atLast3};
+ghost use Rattle.word.specs.Choose.{bitsIf};
+ghost use Rattle.machine.specs.ForCode.{keeping};
 
 // 01's machine: the register file in address order, the program counter, the divider, both timers' counts in progress, the last Port 3
 // pins, the T_OUT level, the type (1 or 11) and the interrupt entry cost.

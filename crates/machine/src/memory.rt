@@ -5,7 +5,8 @@ use crate::Stores;
 ghost use mathlib.Core.Path.{_≡_};
 ghost use Prim.Native.Nat.{_≤_};
 ghost use lib.ListN.{length};
-ghost use Rattle.machine.specs.Memory.{programByte, programThree, reachOf, dataStart, dataByte, dataStored, listOf, storedFrom, storedIn};
+ghost use Rattle.machine.specs.Memory.{programByte, programThree, dataStart, dataByte, dataStored, listOf, storedFrom, storedIn};
+ghost use Rattle.machine.specs.ForCode.{reachOf};
 
 // Three bytes of the program, in address order: as many as an instruction has at most.
 pub struct Triple {

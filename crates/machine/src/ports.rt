@@ -1,7 +1,7 @@
 // Ports 0 to 3: which of their bits are inputs, outputs and address lines.
 use crate::Pins;
 ghost use mathlib.Core.Path.{_≡_};
-ghost use Rattle.machine.specs.Ports.{masked, port0Lines, port1Lines, port2Lines, port3Lines, linesOf, pinsOf, portReads, portStores};
+ghost use Rattle.machine.specs.Ports.{masked, port0Directions, port1Directions, port2Directions, port3Directions, directionsOf, pinsOf, portReads, portStores};
 
 // Which bits of a port are inputs and which are address lines; the others are outputs.
 pub struct Directions {
@@ -17,7 +17,7 @@ fn masked(mask: u8, a: u8, b: u8) -> u8
 }
 
 fn port0_lines(p01m: u8) -> Directions
-    ensures { λ r. ⌜ r ≡ port0Lines p01m ⌝ }
+    ensures { λ r. ⌜ r ≡ port0Directions p01m ⌝ }
 {
     let high = p01m / 64;
     let low = p01m % 4;
@@ -32,7 +32,7 @@ fn port0_lines(p01m: u8) -> Directions
 }
 
 fn port1_lines(p01m: u8) -> Directions
-    ensures { λ r. ⌜ r ≡ port1Lines p01m ⌝ }
+    ensures { λ r. ⌜ r ≡ port1Directions p01m ⌝ }
 {
     let mode = p01m / 8 % 4;
     let inputs = crate::bits_if(mode == 1, 0xFF);
@@ -41,7 +41,7 @@ fn port1_lines(p01m: u8) -> Directions
 }
 
 fn port2_lines(p2m: u8) -> Directions
-    ensures { λ r. ⌜ r ≡ port2Lines p2m ⌝ }
+    ensures { λ r. ⌜ r ≡ port2Directions p2m ⌝ }
 {
     Directions {
         inputs: p2m,
@@ -50,7 +50,7 @@ fn port2_lines(p2m: u8) -> Directions
 }
 
 fn port3_lines() -> Directions
-    ensures { λ r. ⌜ r ≡ port3Lines ⌝ }
+    ensures { λ r. ⌜ r ≡ port3Directions ⌝ }
 {
     Directions {
         inputs: 0x0F,
@@ -59,8 +59,8 @@ fn port3_lines() -> Directions
 }
 
 // The directions of port n.
-pub fn lines_of(p01m: u8, p2m: u8, n: u8) -> Directions
-    ensures { λ r. ⌜ r ≡ linesOf p01m p2m n ⌝ }
+pub fn directions_of(p01m: u8, p2m: u8, n: u8) -> Directions
+    ensures { λ r. ⌜ r ≡ directionsOf p01m p2m n ⌝ }
 {
     match n {
         0 => port0_lines(p01m),

@@ -3,7 +3,8 @@ use crate::Core;
 use crate::Pins;
 ghost use mathlib.Core.Path.{_≡_};
 ghost use Rattle.machine.specs.State.{heldIn, placedIn, whole};
-ghost use Rattle.machine.specs.Registers.{isGeneral, readPort, writePort, readReg, writeReg};
+ghost use Rattle.machine.specs.Registers.{readPort, writePort, readReg, writeReg};
+ghost use Rattle.machine.specs.ForCode.{isGeneral};
 
 // What the place of register a holds. This function and the next alone look up a place by its register's address.
 pub fn held(regs: &[u8; 256], a: u8) -> u8
@@ -25,7 +26,7 @@ fn read_port(regs: &[u8; 256], k: Core, pins: Pins, a: u8) -> u8
     let p01m = held(regs, 0xF8);
     let p2m = held(regs, 0xF6);
     let latch = held(regs, a);
-    let d = crate::ports::lines_of(p01m, p2m, a);
+    let d = crate::ports::directions_of(p01m, p2m, a);
     let pin = crate::ports::pins_of(pins, a);
     crate::ports::reads(d, pin, latch)
 }
@@ -36,7 +37,7 @@ fn write_port(regs: &mut [u8; 256], k: Core, a: u8, v: u8) -> Core
     let p01m = held(regs, 0xF8);
     let p2m = held(regs, 0xF6);
     let latch = held(regs, a);
-    let d = crate::ports::lines_of(p01m, p2m, a);
+    let d = crate::ports::directions_of(p01m, p2m, a);
     let after = crate::ports::stores(d, latch, v);
     place(regs, a, after);
     k

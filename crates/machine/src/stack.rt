@@ -8,7 +8,8 @@ ghost use Prim.Native.Nat.{_≤_, _<_};
 ghost use lib.ListN.{length};
 ghost use Rattle.machine.specs.State.{whole};
 ghost use Rattle.machine.specs.Memory.{listOf};
-ghost use Rattle.machine.specs.Stack.{isInside, spOf, spSet, stackedOf, writtenFrom, pushedInside, pushedOutside, pushed, stackByte, raised};
+ghost use Rattle.machine.specs.Stack.{isInternal, spOf, spSet, writtenFrom, pushedInternal, pushedExternal, pushed, stackByte, raised};
+ghost use Rattle.machine.specs.ForCode.{stackedOf};
 
 // A machine's rest, beside the file that was lent, and what is to be stored in data memory.
 pub struct Pushed {
@@ -17,8 +18,8 @@ pub struct Pushed {
 }
 
 // Whether the stack is inside.
-pub fn is_inside(regs: &[u8; 256], k: Core) -> bool
-    ensures { λ r. ⌜ r ≡ isInside (whole (now (regs .entry)) k) ⌝ }
+pub fn is_internal(regs: &[u8; 256], k: Core) -> bool
+    ensures { λ r. ⌜ r ≡ isInternal (whole (now (regs .entry)) k) ⌝ }
 {
     let p01m = crate::registers::held(regs, 0xF8);
     word::is_set(2, p01m)
@@ -72,8 +73,8 @@ fn write_from(regs: &mut [u8; 256], k: Core, a: u8, b: Bytes) -> Core
     }
 }
 
-fn push_inside(regs: &mut [u8; 256], k: Core, b: Bytes) -> Pushed
-    ensures { λ r. ⌜ stackedOf (now (regs .exit)) r ≡ pushedInside (whole (now (regs .entry)) k) b ⌝ }
+fn push_internal(regs: &mut [u8; 256], k: Core, b: Bytes) -> Pushed
+    ensures { λ r. ⌜ stackedOf (now (regs .exit)) r ≡ pushedInternal (whole (now (regs .entry)) k) b ⌝ }
 {
     let n = count_of(b);
     let down = (256 - n as u16) as u8;
@@ -87,8 +88,8 @@ fn push_inside(regs: &mut [u8; 256], k: Core, b: Bytes) -> Pushed
     }
 }
 
-fn push_outside(regs: &mut [u8; 256], k: Core, b: Bytes) -> Pushed
-    ensures { λ r. ⌜ stackedOf (now (regs .exit)) r ≡ pushedOutside (whole (now (regs .entry)) k) b ⌝ }
+fn push_external(regs: &mut [u8; 256], k: Core, b: Bytes) -> Pushed
+    ensures { λ r. ⌜ stackedOf (now (regs .exit)) r ≡ pushedExternal (whole (now (regs .entry)) k) b ⌝ }
 {
     let n = count_of(b);
     let down = (65536 - n as u32) as u16;
@@ -105,11 +106,11 @@ fn push_outside(regs: &mut [u8; 256], k: Core, b: Bytes) -> Pushed
 pub fn push(regs: &mut [u8; 256], k: Core, b: Bytes) -> Pushed
     ensures { λ r. ⌜ stackedOf (now (regs .exit)) r ≡ pushed (whole (now (regs .entry)) k) b ⌝ }
 {
-    let inside = is_inside(regs, k);
-    if inside {
-        push_inside(regs, k, b)
+    let internal = is_internal(regs, k);
+    if internal {
+        push_internal(regs, k, b)
     } else {
-        push_outside(regs, k, b)
+        push_external(regs, k, b)
     }
 }
 
@@ -117,8 +118,8 @@ pub fn push(regs: &mut [u8; 256], k: Core, b: Bytes) -> Pushed
 pub fn byte_at(regs: &[u8; 256], k: Core, pins: Pins, mem: &[u8], i: u8) -> u8
     ensures { λ r. ⌜ r ≡ stackByte pins (whole (now (regs .entry)) k) (now (mem .entry)) i ⌝ }
 {
-    let inside = is_inside(regs, k);
-    if inside {
+    let internal = is_internal(regs, k);
+    if internal {
         let spl = crate::registers::held(regs, 0xFF);
         let a = std::num::wrapping_add_u8(spl, i);
         return crate::registers::read(regs, k, pins, a);
@@ -132,8 +133,8 @@ pub fn byte_at(regs: &[u8; 256], k: Core, pins: Pins, mem: &[u8], i: u8) -> u8
 pub fn raise(regs: &mut [u8; 256], k: Core, n: u8) -> Core
     ensures { λ r. ⌜ whole (now (regs .exit)) r ≡ raised (whole (now (regs .entry)) k) n ⌝ }
 {
-    let inside = is_inside(regs, k);
-    if inside {
+    let internal = is_internal(regs, k);
+    if internal {
         let spl = crate::registers::held(regs, 0xFF);
         let sp = std::num::wrapping_add_u8(spl, n);
         crate::registers::place(regs, 0xFF, sp);

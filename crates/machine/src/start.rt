@@ -3,7 +3,7 @@ use crate::Machine;
 use timers::Timer;
 ghost use mathlib.Core.Path.{_≡_};
 ghost use mathlib.Core.Bool.{_&&_};
-ghost use Rattle.machine.specs.Start.{placedAll, resetPlaces, startedWith, resetOf, newOf, standardOf, isKind, isCost, madeOf, fullTimer};
+ghost use Rattle.machine.specs.Start.{placedAll, resetPlaces, startedWith, resetOf, newOf, defaultOf, isKind, isCost, madeOf, fullTimer};
 
 // A new machine; or a refusal's number, and then the standard machine, as the answer has to hold one.
 pub struct Made {
@@ -113,8 +113,8 @@ impl Machine {
     }
 
     // A new machine where nothing is named.
-    pub fn standard() -> Self
-        ensures { λ m. ⌜ m ≡ standardOf ⌝ }
+    pub fn default() -> Self
+        ensures { λ m. ⌜ m ≡ defaultOf ⌝ }
     {
         Machine::fresh(Machine::DEFAULT_KIND, Machine::DEFAULT_COST)
     }
@@ -132,7 +132,7 @@ impl Machine {
                 machine,
             }
         } else {
-            let machine = Machine::standard();
+            let machine = Machine::default();
             Made {
                 refusal: 3,
                 machine,

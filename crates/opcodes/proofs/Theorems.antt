@@ -18,7 +18,7 @@ use Rattle.opcodes.specs.declared.Kind.{Kind}
 use Rattle.opcodes.specs.declared.Decoded.the-variants as decoded
 use Rattle.opcodes.specs.declared.Encoded.the-variants as encoded
 use Rattle.opcodes.specs.Map.{entryOf, opcodeMap}
-use Rattle.opcodes.specs.Columns.{costOf}
+use Rattle.opcodes.specs.ForCode.{costOf}
 use Rattle.opcodes.specs.Cycles.{cyclesOf, cycleMap}
 use Rattle.opcodes.specs.Instruction.{defined, lengthOf, operand, decodeOf, decodedAs, encodeOf, isInstruction}
 

@@ -1,6 +1,6 @@
--- The execution cycles of the opcode map, as printed: the first figure in each of its cells. Two figures are two outcomes: of
--- DJNZ, JR and JP cc the jump taken and not taken, of PUSH the stack inside (the register file) and outside (data memory).
--- Where the sheets' maps differ, 004 decides: DA @R is 8, SWAP is 8. Assumes nothing.
+-- The execution cycles of the opcode map (000 and 003): the first figure in each of its cells. Two figures are two outcomes, of a jump and of
+-- the kind of stack: "Taken DJNZ, JR and JP cc 12, else 10. PUSH R 10 with internal stack, 12 external; PUSH IR 12 and 14. CALL 20, RET 14,
+-- IRET 16. The longest instruction takes 20." (01). DA @R is 8 by its page and by 000; 003 prints 6. Assumes nothing.
 use Prim.Native.Nat.{ℕ}
 use mathlib.Core.Bool.{Bool}
 use mathlib.Core.List.{List, [], _∷_}
@@ -50,6 +50,6 @@ figure (always n) first = n
 figure (a or b) first = pick first a b
 figure blank first = 0
 
--- the cycles of an opcode, by the outcome: the jump taken, or the stack inside, is the first
+-- the cycles of an opcode, by the outcome: the jump taken, or the stack internal, is the first
 unfoldable pub cyclesOf : ℕ → Bool → ℕ
 cyclesOf op first = figure (getD (getD cycleMap (upper op) []) (lower op) blank) first

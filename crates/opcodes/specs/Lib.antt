@@ -1,4 +1,4 @@
 pub mod Map
-pub mod Columns
+pub mod ForCode
 pub mod Cycles
 pub mod Instruction

@@ -1,6 +1,8 @@
--- The opcode map of 004, Appendix C, as printed: a row for each upper nibble of the opcode, a column for each lower one. Each
--- entry gives the kind of instruction, its mnemonic and its address modes (5.4), destination first; "the blank areas are not
--- defined". Where our copy of Appendix C is damaged (column F, the label of row 7), the maps of 000 and 003 decide. Assumes nothing.
+-- The opcode map: a row for each upper nibble of the opcode, a column for each lower one, as 004's Appendix C, 000 and 003 print it; 5.5 and
+-- 5.6 give the same opcodes. (Column F is whole in 003 alone, which for its part has Ir where the others have Irr.) Each entry is a mnemonic with its
+-- address modes (5.4), destination first as in 5.5, where the maps print the order of the bytes (1 is the destination, 2 the source).
+-- "The blank areas are not defined": "231 opcodes are defined. The 25 undefined" (01) are exactly these (proved: `undefined-are`).
+-- Assumes nothing.
 use Prim.Native.Nat.{ℕ}
 use mathlib.Core.List.{List, [], _∷_}
 use lib.ListN.{getD}
@@ -24,7 +26,7 @@ use Rattle.opcodes.specs.declared.Target.the-variants as target
 
 -- The address modes, under the names of 5.4.
 
--- one operand: a working register, a register (RR: a pair), an indirect register
+-- one operand: a working register, a register (RR: the same field, of an instruction that takes a pair), an indirect register
 abbrev pub r : One
 r = one.Work
 
@@ -77,7 +79,8 @@ Ir-r = two.IndWork
 abbrev pub IR-R : Two
 IR-R = two.IndReg
 
--- a register and memory at an indirect working-register pair
+-- LDC and LDE (r), LDCI and LDEI (Ir): In is from memory, at the address in the pair Irr, to the register, and Out the other way. Whether the
+-- register itself is meant or one that it points to, the mnemonic says.
 abbrev pub r-Irr : Way
 r-Irr = way.In
 

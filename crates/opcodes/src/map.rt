@@ -14,7 +14,7 @@ ghost use mathlib.Core.Path.{_≡_};
 ghost use Prim.Native.Nat.{_≤_, _<_};
 ghost use Rattle.word.specs.Fields.{upper, lower};
 ghost use Rattle.opcodes.specs.Map.{entryOf};
-ghost use Rattle.opcodes.specs.Columns.{oneMode, twoModes, wayOf};
+ghost use Rattle.opcodes.specs.ForCode.{oneMode, twoModes, wayOf};
 ghost use Rattle.opcodes.specs.Instruction.{defined};
 
 // The map's entry at an opcode, by its nibbles.

@@ -17,8 +17,9 @@ use Rattle.timers.specs.Clock.{written, cycles}
 use Rattle.timers.specs.declared.Control.{Control}
 use Rattle.timers.specs.declared.Counting.{Counting}
 use Rattle.timers.specs.declared.Moving.{Moving}
+use Rattle.machine.specs.Names.{IPR, IRQ, IMR}
 use Rattle.machine.specs.State.{held, placed, withPc}
-use Rattle.machine.specs.Start.{standardOf}
+use Rattle.machine.specs.Start.{defaultOf, fullTimer}
 use Rattle.machine.specs.declared.Machine.{Machine}
 use Rattle.machine.specs.declared.Pins.{Pins}
 use Rattle.execute.specs.Execute.{Execution, executeOf}
@@ -35,7 +36,7 @@ adjusts NoRow f value flags = false
 
 -- a timer as after a reset, and both of them at a divider
 abbrev pub resting : Counting
-resting = record { timer = record { prescaler = 64; counter = 256 }; enabled = false }
+resting = record { timer = fullTimer; enabled = false }
 
 abbrev pub restingAt : ℕ → Moving
 restingAt divider = record { divider = divider; t0 = resting; t1 = resting; lines = record { irq = 0; tout = true } }
@@ -54,7 +55,7 @@ endsIn divider pre0 t0 n = cycles (settingOf (registers (kept 0x03) pre0 t0)) n 
 
 -- a new machine at a program counter, with v in R5; RP is 0, so R5 is working register 5
 abbrev pub machineAt : ℕ → ℕ → Machine
-machineAt pc v = placed (withPc standardOf pc) 0x05 v
+machineAt pc v = placed (withPc defaultOf pc) 0x05 v
 
 abbrev pub pins : Pins
 pins = record { port0 = 0xFF; port1 = 0xFF; port2 = 0xFF; port3 = 0xFF }
@@ -63,7 +64,7 @@ pins = record { port0 = 0xFF; port1 = 0xFF; port2 = 0xFF; port3 = 0xFF }
 abbrev pub executed : List ℕ → Machine → Execution
 executed image m = executeOf pins image [] m
 
--- DJNZ R5 on v, with a displacement of 10, leaves this in R5 and costs so much
+-- DJNZ R5 on v, with a displacement of 10 (hexadecimal), leaves this in R5 and costs so much
 abbrev pub djnz : ℕ → ℕ → ℕ → Bool
 djnz v left cycles =
     let x = executed (0x5A ∷ 0x10 ∷ []) (machineAt 0x0000 v) in
@@ -71,7 +72,7 @@ djnz v left cycles =
 
 -- a new machine with these bytes in IPR, IMR and IRQ; and its step, of a program of NOPs whose vector at 000A, alone, holds 1234
 abbrev pub requesting : ℕ → ℕ → ℕ → Machine
-requesting ipr imr irq = placed (placed (placed standardOf 0xF9 ipr) 0xFB imr) 0xFA irq
+requesting ipr imr irq = placed (placed (placed defaultOf IPR ipr) IMR imr) IRQ irq
 
 abbrev pub stepped : Machine → Progress
 stepped m = stepOf pins (replicate 10 0xFF ++ (0x12 ∷ 0x34 ∷ replicate 4 0xFF)) [] m
@@ -81,14 +82,14 @@ abbrev pub all : List Bool → Bool
 all [] = true
 all (b ∷ bs) = b && all bs
 
--- Of the FLAGS byte before (the second argument of `after` and `adjusts`), each flag that 01 gives is the opposite of what it
--- becomes. PRE0 0D is P 3, repeating; 01 is P 64, repeating; T0 00 is N 256.
+-- Of the FLAGS byte before (the second argument of `after` and `adjusts`), each flag that the page affects is the opposite of what it
+-- becomes, but for C before DA, which 01 gives. PRE0 0D is P 3, repeating; 01 is P 64, repeating; T0 00 is N 256.
 unfoldable pub examples : List Bool
 examples =
     -- 44 + 11 = 55, flags C Z S V D H clear
     after (addOf 0x44 0x11) 0xFC 0x55 0x00
     -- 7B AND C3 = 43
-    ∷ after (andOf 0xC3 0x7B) 0x70 0x43 0x00
+    ∷ after (andOf 0x7B 0xC3) 0x70 0x43 0x00
     -- 00 - 01 = FF with C, S, D, H set and Z, V clear
     ∷ after (subOf 0x00 0x01) 0x50 0xFF 0xAC
     -- INC 7F = 80 with S, V set
@@ -98,7 +99,7 @@ examples =
     -- RL 40 = 80 with S, V set and C clear
     ∷ after (rlOf 0x40) 0xC0 0x80 0x30
     -- DA of 3C (C, D, H clear) = 42
-    ∷ adjusts (daOf 0x3C 0x00) 0x60 0x42 0x00
+    ∷ adjusts (daOf 0x3C 0x60) 0x60 0x42 0x00
     -- DECW 0000 = FFFF
     ∷ eqb (decwOf 0x0000 .value) 0xFFFF
     -- DJNZ on 1 leaves 0, 10 cycles; on 0 leaves FF, 12 cycles

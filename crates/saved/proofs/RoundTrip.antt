@@ -22,14 +22,15 @@ use Rattle.machine.specs.Start.{isKind, isCost}
 use Rattle.machine.specs.Legal.{mayHold, LegalFile, Legal}
 use Rattle.machine.specs.declared.Machine.{Machine}
 use Rattle.machine.proofs.Legal.{zero-may, irq-small}
-use Rattle.saved.specs.Saved.{byte, timerOf, machineOf, restOf, savedOf, countsFit, ownFit, zeros, holesEmpty, bitsClear, legalOf, refusalOf, loadOf}
+use Rattle.saved.specs.Saved.{byte, timerOf, machineOf, restOf, savedOf, countsFit, ownFit, zeros, holesEmpty, bitsClear, legalOf, firstOf, legalRefusal, refusalOf}
+use Rattle.saved.specs.ForCode.{loadOf}
 
 -- what is not refused is 268 bytes, and legal
 pub loads-268 : (s : List ℕ) → refusalOf s ≡ 0 → length s ≡ 268
 unfolding refusalOf
-loads-268 s e = eqb-true (length s) 268 (is-true (eqb (length s) 268) (pick (legalOf s) 0 6) e)
+loads-268 s e = eqb-true (length s) 268 (is-true (eqb (length s) 268) (legalRefusal s) e)
   where
-    is-true : (b : Bool) (x : ℕ) → pick b x 7 ≡ 0 → b ≡ true
+    is-true : (b : Bool) (x : ℕ) → firstOf (pick b 0 7 ∷ x ∷ []) ≡ 0 → b ≡ true
     is-true true x h = refl
     is-true false x h = absurd (omega arith)
 
@@ -37,7 +38,7 @@ pub loads-legal : (s : List ℕ) → refusalOf s ≡ 0 → T (legalOf s)
 unfolding refusalOf
 loads-legal s e = is-legal (eqb (length s) 268) (legalOf s) e
   where
-    is-legal : (b l : Bool) → _≡_ {A = ℕ} (pick b (pick l 0 6) 7) 0 → T l
+    is-legal : (b l : Bool) → firstOf (pick b 0 7 ∷ pick l 0 6 ∷ []) ≡ 0 → T l
     is-legal true true h = tt
     is-legal true false h = absurd (omega arith)
     is-legal false l h = absurd (omega arith)

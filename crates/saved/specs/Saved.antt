@@ -8,9 +8,9 @@ use Rattle.word.specs.Choose.{pick, oneIf}
 use Rattle.word.specs.Fields.{bitOf, lower, wordOf, highByte, lowByte}
 use Rattle.timers.specs.Control.{orHighest}
 use Rattle.timers.specs.declared.Timer.{Timer}
-use Rattle.machine.specs.Start.{isKind, isCost, standardOf}
+use Rattle.machine.specs.Names.{TMR, IRQ, RP}
+use Rattle.machine.specs.Start.{isKind, isCost}
 use Rattle.machine.specs.declared.Machine.{Machine}
-use Rattle.saved.specs.declared.Loaded.{Loaded}
 
 -- byte i of a saved machine
 abbrev pub byte : List ℕ → ℕ → ℕ
@@ -37,7 +37,7 @@ machineOf s =
       cost = byte s 266;
     }
 
--- the same the other way: each number as its byte, which of a legal machine's is the number itself, but for a counter of 256
+-- the same the other way, the low byte of each number: of a legal machine the number itself, but 0 for a counter of 256
 unfoldable pub restOf : Machine → List ℕ
 restOf m =
     highByte (m .pc)
@@ -82,12 +82,21 @@ legalOf s =
     countsFit (byte s 258) (byte s 259) (byte s 261)
     && ownFit (byte s 266) (byte s 264) (byte s 265) (byte s 267)
     && holesEmpty s
-    && bitsClear (byte s 0xF1) (byte s 0xFA) (byte s 0xFD)
+    && bitsClear (byte s TMR) (byte s IRQ) (byte s RP)
 
--- refusal 7, "saved machine not 268 bytes", before 6, "saved machine not legal"
+-- "The first that applies, tested in the order 7, 6, 1, 2, 3, 4, 5, 8, among those that the call can meet." Whoever refuses lists its tests
+-- in this order; a test that doesn't apply is 0.
+abbrev pub firstOf : List ℕ → ℕ
+firstOf [] = 0
+firstOf (n ∷ ns) = pick (eqb n 0) (firstOf ns) n
+
+-- "saved machine not 268 bytes"
+abbrev pub lengthRefusal : List ℕ → ℕ
+lengthRefusal s = pick (eqb (length s) 268) 0 7
+
+-- "saved machine not legal"
+abbrev pub legalRefusal : List ℕ → ℕ
+legalRefusal s = pick (legalOf s) 0 6
+
 unfoldable pub refusalOf : List ℕ → ℕ
-refusalOf s = pick (eqb (length s) 268) (pick (legalOf s) 0 6) 7
-
--- what bytes load to. A refused answer holds, as it has to hold one, the machine made where nothing is named.
-unfoldable pub loadOf : List ℕ → Loaded
-loadOf s = record { refusal = refusalOf s; machine = pick (eqb (refusalOf s) 0) (machineOf s) standardOf }
+refusalOf s = firstOf (lengthRefusal s ∷ legalRefusal s ∷ [])

@@ -4,7 +4,8 @@ ghost use lib.ListN.{length, take};
 ghost use Rattle.word.specs.Choose.{oneIf};
 ghost use Rattle.word.specs.Fields.{lowByte};
 ghost use Rattle.machine.specs.Legal.{Legal};
-ghost use Rattle.saved.specs.Saved.{timerOf, restOf, machineOf, savedOf, countsFit, ownFit, holesEmpty, bitsClear, legalOf, refusalOf, loadOf};
+ghost use Rattle.saved.specs.Saved.{timerOf, restOf, machineOf, savedOf, countsFit, ownFit, holesEmpty, bitsClear, legalOf, refusalOf};
+ghost use Rattle.saved.specs.ForCode.{loadOf};
 use machine::Machine;
 use timers::Timer;
 
@@ -148,7 +149,7 @@ pub fn load(saved: &[u8]) -> Loaded
 {
     let refusal = check(saved);
     if refusal != 0 {
-        let machine = Machine::standard();
+        let machine = Machine::default();
         return Loaded { refusal, machine };
     }
     let machine = machine_of(saved);

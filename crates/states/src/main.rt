@@ -296,7 +296,7 @@ fn makes(i: u32) -> u32 {
 }
 
 fn standard() -> u32 {
-    with_machine(0, Machine::standard())
+    with_machine(0, Machine::default())
 }
 
 // Which byte of a saved machine is changed, and how many bytes are given.

@@ -1,10 +1,9 @@
 -- A step either is refused, and then nothing is changed, or costs 6 to 63 cycles and leaves a legal machine and bytes. Assumes nothing.
-use mathlib.Core.Path.{_≡_, refl, ap, sym, _∙_, subst}
-use mathlib.Core.Bool.{Bool, true, false}
+use mathlib.Core.Path.{_≡_, refl, ap, sym, _∙_}
 use mathlib.Core.List.{List, [], _∷_}
 use Prim.Native.Nat.{ℕ, zero, suc, _+_, _≤_, _<_}
 use native.Mathlib.Omega.{arith}
-use lib.Dec.{T, eqb, ltb, leb, leb→le}
+use lib.Dec.{eqb, ltb, leb, leb→le}
 use lib.ListN.{set}
 use borrow.Author.Tests.{eqb-true}
 use Rattle.word.specs.Words.{plus}
@@ -14,7 +13,7 @@ use Rattle.opcodes.specs.Map.{entryOf}
 use Rattle.opcodes.specs.declared.Entry.{Entry}
 use Rattle.opcodes.specs.declared.Entry.the-variants as entry
 use Rattle.machine.specs.Memory.{programByte, dataStart, dataStored, storedFrom, storedIn, listOf}
-use Rattle.machine.specs.Clock.{Ran, cycleOf, spanOf}
+use Rattle.machine.specs.Clock.{cycleOf, spanOf}
 use Rattle.machine.specs.Legal.{Legal}
 use Rattle.machine.specs.declared.Machine.{Machine}
 use Rattle.machine.specs.declared.Pins.{Pins}
@@ -23,10 +22,10 @@ use Rattle.machine.specs.declared.Stores.the-variants.{Nothing, At}
 use Rattle.machine.proofs.Lens.{span-within}
 use Rattle.machine.proofs.Legal.{LegalPins, AllBytes, span-legal}
 use Rattle.deeds.proofs.Fits.{AllRead}
-use Rattle.execute.specs.Execute.{Execution, refusedOf, memoryAfter, executeOf}
+use Rattle.execute.specs.Execute.{Execution, refusedOf, executeOf}
 use Rattle.execute.proofs.Legal.{FitStores, Sound, execute-sound}
 use Rattle.execute.proofs.Theorems.{undefined-refused, costs-6-to-20}
-use Rattle.interrupts.specs.Edges.{Comparison, comparedOf}
+use Rattle.interrupts.specs.Edges.{comparedOf}
 use Rattle.interrupts.specs.Grants.{grantOf}
 use Rattle.interrupts.specs.declared.grants.Grant.{Grant}
 use Rattle.interrupts.specs.declared.grants.Grant.the-variants as grant

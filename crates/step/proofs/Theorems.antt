@@ -1,12 +1,12 @@
 -- What the order asks of a step and a run beyond the contracts. Assumes nothing.
 use mathlib.Core.Path.{_≡_, refl, ap, sym, _∙_, subst}
-use mathlib.Core.Bool.{Bool, true, false, _&&_}
+use mathlib.Core.Bool.{true, false, _&&_}
 use mathlib.Core.List.{List}
 use Prim.Native.Nat.{ℕ, zero, suc, _+_, _≤_, _<_}
 use native.Mathlib.Decide.{decLt}
 use native.Mathlib.Omega.{arith}
 use lib.Dec.{T, eqb, ltb}
-use borrow.Author.Tests.{eqb-true, ltb-true, lt-ltb, le-ltb}
+use borrow.Author.Tests.{eqb-true, eqb-false, ltb-true, lt-ltb}
 use Rattle.word.proofs.Computed.{by-test}
 use Rattle.timers.specs.Iter.{iter}
 use Rattle.timers.proofs.Iterate.{iter-zero, iter-suc}
@@ -27,7 +27,7 @@ use Rattle.interrupts.specs.Edges.{comparedOf}
 use Rattle.interrupts.specs.Grants.{grantOf}
 use Rattle.interrupts.specs.declared.grants.Grant.the-variants as grant
 use Rattle.step.specs.Step.{Progress, clockedOn, stepOf}
-use Rattle.step.specs.Run.{nothingDone, further, goesOn, oneMore, stepsOf, budgetLimit, runOf}
+use Rattle.step.specs.Run.{nothingDone, goesOn, oneMore, stepsOf, budgetLimit, budgetRefusal, runOf}
 use Rattle.step.proofs.Acts.{blank-refused, kind-taken, request-taken}
 use Rattle.step.proofs.Good.{Taken, Good, unclocked, step-good}
 use Rattle.step.proofs.Good.Good.{refused, taken}
@@ -117,17 +117,17 @@ module _ (p : Pins) (image : List ℕ) (lp : LegalPins p) (li : AllRead image) w
 
       pub run-legal : Legal (runOf p image mem m budget .machine)
       unfolding runOf
-      run-legal = by-test (λ (r : Progress). Legal (r .machine)) (ltb budgetLimit budget) (λ t. l) (λ t. ran .legal)
+      run-legal = by-test (λ (r : Progress). Legal (r .machine)) (eqb (budgetRefusal budget) 0) (λ t. ran .legal) (λ t. l)
 
       -- "so it spends at most 62 cycles over"
       pub run-over : runOf p image mem m budget .cycles ≤ budget + 62
       unfolding runOf
-      run-over = by-test (λ (r : Progress). r .cycles ≤ budget + 62) (ltb budgetLimit budget) (λ t. omega arith) (λ t. ran .within)
+      run-over = by-test (λ (r : Progress). r .cycles ≤ budget + 62) (eqb (budgetRefusal budget) 0) (λ t. ran .within) (λ t. omega arith)
 
       -- as many turns as the budget has cycles are enough: a run that isn't refused has reached it
       pub run-stops : runOf p image mem m budget .refusal ≡ 0 → budget ≤ runOf p image mem m budget .cycles
       unfolding runOf
-      run-stops = by-test (λ (r : Progress). r .refusal ≡ 0 → budget ≤ r .cycles) (ltb budgetLimit budget) (λ t d. absurd (omega arith)) (λ t d. reaches d (decLt (stepsOf p image mem m budget .cycles) budget))
+      run-stops = by-test (λ (r : Progress). r .refusal ≡ 0 → budget ≤ r .cycles) (eqb (budgetRefusal budget) 0) (λ t d. reaches d (decLt (stepsOf p image mem m budget .cycles) budget)) (λ t d. absurd (eqb-false (budgetRefusal budget) 0 t d))
         where
           reaches : stepsOf p image mem m budget .refusal ≡ 0 → Dec (stepsOf p image mem m budget .cycles < budget) → budget ≤ stepsOf p image mem m budget .cycles
           reaches d (yes h) = ran .going d h

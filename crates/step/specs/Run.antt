@@ -5,14 +5,9 @@ use Prim.Native.Nat.{ℕ, _+_}
 use lib.Dec.{eqb, ltb}
 use Rattle.word.specs.Choose.{pick}
 use Rattle.timers.specs.Iter.{iter}
-use Rattle.machine.specs.State.{whole}
-use Rattle.machine.specs.Clock.{Ran}
 use Rattle.machine.specs.declared.Machine.{Machine}
 use Rattle.machine.specs.declared.Pins.{Pins}
 use Rattle.step.specs.Step.{Progress, stepOf}
-use Rattle.step.specs.declared.Went.{Went}
-use Rattle.step.specs.declared.Stepped.{Stepped}
-use Rattle.step.specs.declared.Passed.{Passed}
 
 -- nothing done, with this refusal's number or 0
 abbrev pub nothingDone : ℕ → Machine → List ℕ → Progress
@@ -42,21 +37,15 @@ oneMore p image budget r = goesOn budget r (stepOf p image (r .memory) (r .machi
 unfoldable pub stepsOf : Pins → List ℕ → List ℕ → Machine → ℕ → Progress
 stepsOf p image mem m budget = iter budget (oneMore p image budget) (nothingDone 0 m mem)
 
--- refusal 4: "run budget over 1,000,000 cycles", "nothing changed". (Those that come before it are about what a caller lends, and are given
--- where it is lent.)
+-- refusal 4: "run budget over 1,000,000 cycles"
 abbrev pub budgetLimit : ℕ
 budgetLimit = 1000000
 
+abbrev pub budgetRefusal : ℕ → ℕ
+budgetRefusal budget = pick (ltb budgetLimit budget) 4 0
+
+-- "nothing changed" where it is refused. (The refusals that come before are about what a caller lends, and are given where it is lent.)
 unfoldable pub runOf : Pins → List ℕ → List ℕ → Machine → ℕ → Progress
-runOf p image mem m budget = pick (ltb budgetLimit budget) (nothingDone 4 m mem) (stepsOf p image mem m budget)
-
--- for the code: the same of a machine by value, beside a lent data memory
-abbrev pub steppedOf : List ℕ → Stepped → Progress
-steppedOf mem s =
-    record { refusal = s .refusal; cycles = s .cycles; ends0 = s .ends0; ends1 = s .ends1; machine = s .machine; memory = mem }
-
-abbrev pub byValue : List ℕ → Went → Stepped
-byValue file w = record { refusal = w .refusal; cycles = w .cycles; ends0 = w .ends0; ends1 = w .ends1; machine = whole file (w .k) }
-
-abbrev pub passedOf : Passed → Ran
-passedOf p = record { machine = p .machine; ends0 = p .ends0; ends1 = p .ends1 }
+runOf p image mem m budget =
+    let refusal = budgetRefusal budget in
+    pick (eqb refusal 0) (stepsOf p image mem m budget) (nothingDone refusal m mem)

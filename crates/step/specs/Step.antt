@@ -1,14 +1,8 @@
 -- One step (01 "One step"). Assumes nothing.
-use mathlib.Core.Bool.{Bool, false, not}
 use mathlib.Core.List.{List}
 use Prim.Native.Nat.{ℕ, _+_}
 use lib.Dec.{eqb}
 use Rattle.word.specs.Choose.{pick}
-use Rattle.opcodes.specs.Instruction.{defined}
-use Rattle.opcodes.specs.Map.{entryOf}
-use Rattle.opcodes.specs.declared.Entry.{Entry}
-use Rattle.machine.specs.Memory.{programByte}
-use Rattle.machine.specs.State.{whole}
 use Rattle.machine.specs.Clock.{spanOf}
 use Rattle.machine.specs.Stack.{Stacked}
 use Rattle.machine.specs.declared.Machine.{Machine}
@@ -19,7 +13,6 @@ use Rattle.interrupts.specs.Grants.{grantOf}
 use Rattle.interrupts.specs.Entry.{enteredOf}
 use Rattle.interrupts.specs.declared.grants.Grant.{Grant}
 use Rattle.interrupts.specs.declared.grants.Grant.the-variants as grant
-use Rattle.step.specs.declared.Went.{Went}
 
 -- what a step or a run comes to: 0 or a refusal's number, its cycles, "each timer's ends, edge ends too", the machine, data memory
 pub record Progress : Type 0 where
@@ -44,8 +37,8 @@ pub record Action : Type 0 where
   pub done : Execution
   pub ends1 : ℕ
 
--- It is refused where nothing is granted, the edges counted, and the opcode is undefined; there is no other refusal. "Nothing changed": m is
--- as before its pins were compared, with IRQ, TMR, T1, T_OUT and the last pins as they were.
+-- It is refused exactly where the opcode is undefined and nothing is granted, the requests just latched by edges included. "Nothing changed": m is as
+-- before its pins were compared, so IRQ, TMR, T1, T_OUT and the last pins too are as they were.
 unfoldable pub actOn : Machine → Comparison → Execution → Action
 actOn m c x = pick (eqb (x .refusal) 0) (record { done = x; ends1 = c .ends1 }) (record { done = refusedOf m; ends1 = 0 })
 
@@ -72,16 +65,3 @@ clockedOn m mem a =
 -- one step
 unfoldable pub stepOf : Pins → List ℕ → List ℕ → Machine → Progress
 stepOf p image mem m = clockedOn m mem (actionOf p image mem m)
-
--- for the code: the same beside a lent file and data memory
-abbrev pub progressOf : List ℕ → List ℕ → Went → Progress
-progressOf file mem w =
-    record { refusal = w .refusal; cycles = w .cycles; ends0 = w .ends0; ends1 = w .ends1; machine = whole file (w .k); memory = mem }
-
--- for the code: whether a step is refused, which is known before anything is stored
-abbrev pub refusedWhere : Grant → Entry → Bool
-refusedWhere grant.Nothing e = not (defined e)
-refusedWhere (grant.Request n) e = false
-
-unfoldable pub isRefusedOf : Pins → List ℕ → Machine → Bool
-isRefusedOf p image m = refusedWhere (grantOf (comparedOf m (p .port3) .machine)) (entryOf (programByte image (m .pc)))

@@ -11,11 +11,12 @@ ghost use Prim.Native.Nat.{ℕ, _≤_, _<_};
 ghost use Rattle.machine.specs.State.{whole};
 ghost use Rattle.machine.specs.Legal.{Legal};
 ghost use Rattle.machine.specs.Clock.{spanOf};
-ghost use Rattle.execute.specs.Execute.{executionOf};
+ghost use Rattle.execute.specs.ForCode.{executionOf};
+ghost use Rattle.step.specs.ForCode.{progressOf, isRefusedOf, steppedOf, byValue, passedOf};
 ghost use Rattle.interrupts.specs.Grants.{grantOf};
 ghost use Rattle.interrupts.specs.Entry.{enteredOf};
-ghost use Rattle.step.specs.Step.{costingEntry, grantedOr, stepOf, progressOf, isRefusedOf};
-ghost use Rattle.step.specs.Run.{nothingDone, budgetLimit, stepsOf, runOf, steppedOf, byValue, passedOf};
+ghost use Rattle.step.specs.Step.{costingEntry, grantedOr, stepOf};
+ghost use Rattle.step.specs.Run.{nothingDone, budgetLimit, stepsOf, runOf};
 
 // What a step or a run comes to, beside the file and the data memory that were lent.
 pub struct Went {

@@ -8,8 +8,8 @@ use lib.Dec.{T, eqb}
 use borrow.Author.Tests.{ne-eqb}
 use Rattle.timers.specs.Iter.{iter}
 use Rattle.word.specs.Choose.{pick}
-use Rattle.timers.specs.Timer.{moves, more, ticks, fewOf}
-use Rattle.timers.specs.Clock.{both, cycle, cycles, begun, atDivider, endOf, asBefore, fewCycles, LegalSetting, LegalMoving}
+use Rattle.timers.specs.Timer.{moves}
+use Rattle.timers.specs.Clock.{tickBoth, cycle, cycles, begun, atDivider, endOf, LegalSetting, LegalMoving}
 use Rattle.timers.specs.declared.ticks.Counted.{Counted}
 use Rattle.timers.specs.declared.clock.Counts.{Counts}
 use Rattle.timers.specs.declared.Source.{Source}
@@ -20,6 +20,7 @@ use Rattle.timers.specs.declared.Spanned.{Spanned}
 use Rattle.timers.proofs.Iterate.{iter-zero, iter-suc, iter-both}
 use Rattle.timers.proofs.Division.{ticks-zero, ticks-suc, ticks-few}
 use Rattle.timers.proofs.Ends.{ends-swap}
+use Rattle.timers.specs.ForCode.{more, ticks, fewOf, asBefore, fewCycles}
 
 pub both-true : (a b : Bool) → a && b ≡ true → (a ≡ true) × (b ≡ true)
 both-true true b e = (refl, e)
@@ -50,14 +51,14 @@ module _ (s : Setting) where
   apart-zero : (by : Source) (m : Moving) → begun m ≡ apart by m 0
   apart-zero by m = rw (ticks-zero by (s .t0) (m .t0), ticks-zero by (s .t1) (m .t1), iter-zero (endOf (s .t1)), iter-zero (endOf (s .t0)))
 
-  apart-suc : (by : Source) (m : Moving) (k : ℕ) → both by s (apart by m k) ≡ apart by m (suc k)
-  unfolding both more
+  apart-suc : (by : Source) (m : Moving) (k : ℕ) → tickBoth by s (apart by m k) ≡ apart by m (suc k)
+  unfolding tickBoth more
   apart-suc by m k =
       rw (ticks-suc by (s .t0) k (m .t0), ticks-suc by (s .t1) k (m .t1), iter-both (endOf (s .t0)) (endOf (s .t1)) (ends-swap (s .t0) (s .t1)))
 
-  pub ticks-apart : (by : Source) (m : Moving) (k : ℕ) → iter k (both by s) (begun m) ≡ apart by m k
-  ticks-apart by m zero = iter-zero (both by s) (begun m) ∙ apart-zero by m
-  ticks-apart by m (suc k) = iter-suc (both by s) k (begun m) ∙ ap (both by s) (ticks-apart by m k) ∙ apart-suc by m k
+  pub ticks-apart : (by : Source) (m : Moving) (k : ℕ) → iter k (tickBoth by s) (begun m) ≡ apart by m k
+  ticks-apart by m zero = iter-zero (tickBoth by s) (begun m) ∙ apart-zero by m
+  ticks-apart by m (suc k) = iter-suc (tickBoth by s) k (begun m) ∙ ap (tickBoth by s) (ticks-apart by m k) ∙ apart-suc by m k
 
   -- a cycle that only counts, and one that ticks
   counts-on : (x : Spanned) (d e : ℕ) → e ≡ (d + 1) % 4 → 0 < e → cycle s (atDivider x d) ≡ atDivider x e
@@ -66,35 +67,35 @@ module _ (s : Setting) where
       let other : eqb e 0 ≡ false = ne-eqb e 0 (λ q. omega arith) in
       rw (← h, other)
 
-  comes-round : (x : Spanned) (d : ℕ) → 0 ≡ (d + 1) % 4 → cycle s (atDivider x d) ≡ atDivider (both Divider s x) 0
-  unfolding cycle both
+  comes-round : (x : Spanned) (d : ℕ) → 0 ≡ (d + 1) % 4 → cycle s (atDivider x d) ≡ atDivider (tickBoth Divider s x) 0
+  unfolding cycle tickBoth
   comes-round x d h = rw (← h)
 
-  same : (x : Spanned) (q q′ d d′ : ℕ) → q ≡ q′ → d ≡ d′ → atDivider (iter q (both Divider s) x) d ≡ atDivider (iter q′ (both Divider s) x) d′
+  same : (x : Spanned) (q q′ d d′ : ℕ) → q ≡ q′ → d ≡ d′ → atDivider (iter q (tickBoth Divider s) x) d ≡ atDivider (iter q′ (tickBoth Divider s) x) d′
   same x q q′ d d′ hq hd = rw (hq, hd)
 
   -- n cycles are as many ticks as the divider comes round
   pub cycles-are-ticks : (x : Spanned) → x .now .divider < 4 → (n : ℕ)
-      → iter n (cycle s) x ≡ atDivider (iter ((x .now .divider + n) / 4) (both Divider s) x) ((x .now .divider + n) % 4)
+      → iter n (cycle s) x ≡ atDivider (iter ((x .now .divider + n) / 4) (tickBoth Divider s) x) ((x .now .divider + n) % 4)
   cycles-are-ticks x h zero =
       let d = x .now .divider in
       iter-zero (cycle s) x
-      ∙ sym (ap (λ (y : Spanned). atDivider y d) (iter-zero (both Divider s) x))
+      ∙ sym (ap (λ (y : Spanned). atDivider y d) (iter-zero (tickBoth Divider s) x))
       ∙ same x 0 ((d + 0) / 4) d ((d + 0) % 4) (omega arith) (omega arith)
   cycles-are-ticks x h (suc n) =
       iter-suc (cycle s) n x ∙ ap (cycle s) (cycles-are-ticks x h n) ∙ go (decLt 0 ((x .now .divider + suc n) % 4))
     where
       go : Dec (0 < (x .now .divider + suc n) % 4)
-          → cycle s (atDivider (iter ((x .now .divider + n) / 4) (both Divider s) x) ((x .now .divider + n) % 4))
-          ≡ atDivider (iter ((x .now .divider + suc n) / 4) (both Divider s) x) ((x .now .divider + suc n) % 4)
+          → cycle s (atDivider (iter ((x .now .divider + n) / 4) (tickBoth Divider s) x) ((x .now .divider + n) % 4))
+          ≡ atDivider (iter ((x .now .divider + suc n) / 4) (tickBoth Divider s) x) ((x .now .divider + suc n) % 4)
       go (yes l) =
           let d = x .now .divider in
-          counts-on (iter ((d + n) / 4) (both Divider s) x) ((d + n) % 4) ((d + suc n) % 4) (omega arith) l
+          counts-on (iter ((d + n) / 4) (tickBoth Divider s) x) ((d + n) % 4) ((d + suc n) % 4) (omega arith) l
           ∙ same x ((d + n) / 4) ((d + suc n) / 4) ((d + suc n) % 4) ((d + suc n) % 4) (omega arith) refl
       go (no l) =
           let d = x .now .divider in
-          comes-round (iter ((d + n) / 4) (both Divider s) x) ((d + n) % 4) (omega arith)
-          ∙ sym (ap (λ (y : Spanned). atDivider y 0) (iter-suc (both Divider s) ((d + n) / 4) x))
+          comes-round (iter ((d + n) / 4) (tickBoth Divider s) x) ((d + n) % 4) (omega arith)
+          ∙ sym (ap (λ (y : Spanned). atDivider y 0) (iter-suc (tickBoth Divider s) ((d + n) / 4) x))
           ∙ same x (suc ((d + n) / 4)) ((d + suc n) / 4) 0 ((d + suc n) % 4) (omega arith) (omega arith)
 
   -- n cycles, timer by timer

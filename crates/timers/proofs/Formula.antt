@@ -5,8 +5,8 @@ use Prim.Native.Nat.{ℕ, _+_, _-_, _*_, _/_, _≤_, _<_}
 use native.Mathlib.Nat.{add-mul-div-left, add-mul-mod-self-left, div-eq-of-lt, mod-eq-of-lt, mul-le-mul-left, div-div-eq-div-mul}
 use native.Mathlib.Omega.{arith}
 use Rattle.timers.specs.Iter.{iter}
-use Rattle.timers.specs.Control.{settingOf, Bytes}
-use Rattle.timers.specs.Timer.{moves, more, ticks, noEnd, LegalSetup, LegalCounting}
+use Rattle.timers.specs.Control.{settingOf, ControlBytes}
+use Rattle.timers.specs.Timer.{moves, noEnd, LegalSetup, LegalCounting}
 use Rattle.timers.specs.Clock.{cycles, Which, T0, T1, setupFor, countingFor, endsFor, gone, Steady, LegalSetting, LegalMoving}
 use Rattle.timers.specs.declared.Control.{Control}
 use Rattle.timers.specs.declared.Source.the-variants.{Divider}
@@ -19,6 +19,7 @@ use Rattle.timers.proofs.Iterate.{iter-add}
 use Rattle.timers.proofs.Division.{at, part, fresh}
 use Rattle.timers.proofs.Cycles.{cycles-apart}
 use Rattle.timers.proofs.Legal.{setting-legal}
+use Rattle.timers.specs.ForCode.{more, ticks}
 
 -- the ticks already gone
 abbrev since : Setup → Counting → ℕ
@@ -80,7 +81,7 @@ module _ (s : Setting) (m : Moving) (ls : LegalSetting s) (lm : LegalMoving m) w
   formula w n st = ends-are w n ∙ ends-in-cycles (setupFor w s) (countingFor w m) (setup-legal w) (counting-legal w) st (m .divider) n
 
 -- The same of what the registers say: with `span`'s contract, demand 3 of this room.
-pub formula-by-registers : (c : Control) (m : Moving) → Bytes c → LegalMoving m → (w : Which) (n : ℕ)
+pub formula-by-registers : (c : Control) (m : Moving) → ControlBytes c → LegalMoving m → (w : Which) (n : ℕ)
     → Steady (setupFor w (settingOf c)) (countingFor w m)
     → endsFor w (cycles (settingOf c) n m)
     ≡ (n + gone (m .divider) (setupFor w (settingOf c)) (countingFor w m)) / (4 * setupFor w (settingOf c) .p * setupFor w (settingOf c) .n)

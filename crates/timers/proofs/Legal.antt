@@ -10,9 +10,9 @@ use lib.Bits.{bitAnd}
 use borrow.Author.Tests.{lt-ltb, le-ltb, eqb-false}
 use Rattle.word.specs.Fields.{bitOf}
 use Rattle.word.proofs.Computed.{by-test, agree}
-use Rattle.timers.specs.Control.{orHighest, setupOf, settingOf, kept, Bytes}
+use Rattle.timers.specs.Control.{orHighest, setupOf, settingOf, kept, ControlBytes}
 use Rattle.timers.specs.Timer.{tick, moves, ticked, timerWritten, LegalSetup, LegalCounting}
-use Rattle.timers.specs.Clock.{both, cycle, cycles, begun, atDivider, endOf, edgeOf, written, LegalSetting, LegalMoving}
+use Rattle.timers.specs.Clock.{tickBoth, cycle, cycles, begun, atDivider, endOf, edgeOf, written, LegalSetting, LegalMoving}
 use Rattle.timers.specs.declared.Control.{Control}
 use Rattle.timers.specs.declared.Source.{Source}
 use Rattle.timers.specs.declared.Source.the-variants.{Divider, Edges}
@@ -47,7 +47,7 @@ setup-legal pre start request divider edges drives hp hs hr =
       request-high = hr;
     }
 
-pub setting-legal : (c : Control) → Bytes c → LegalSetting (settingOf c)
+pub setting-legal : (c : Control) → ControlBytes c → LegalSetting (settingOf c)
 unfolding settingOf
 setting-legal c b =
     record {
@@ -75,8 +75,8 @@ module _ (s : Setup) (ls : LegalSetup s) where
   end-legal l h = latch-legal (s .request) (l .irq) (ls .request-high) h
 
 module _ (s : Setting) (ls : LegalSetting s) where
-  both-legal : (by : Source) (x : Spanned) → LegalMoving (x .now) → LegalMoving (both by s x .now)
-  unfolding both
+  both-legal : (by : Source) (x : Spanned) → LegalMoving (x .now) → LegalMoving (tickBoth by s x .now)
+  unfolding tickBoth
   both-legal by x l =
       record {
         divider-high = l .divider-high;
@@ -108,7 +108,7 @@ unfolding timerWritten
 timer-written-legal s true enable c ls lc = omega (arith, ls .p-low, ls .p-high, ls .n-low, ls .n-high)
 timer-written-legal s false enable c ls lc = omega (arith, lc .prescaler-low, lc .prescaler-high, lc .counter-low, lc .counter-high)
 
-pub written-legal : (c : Control) (m : Moving) → Bytes c → LegalMoving m → LegalMoving (written c m)
+pub written-legal : (c : Control) (m : Moving) → ControlBytes c → LegalMoving m → LegalMoving (written c m)
 unfolding written
 written-legal c m b l =
     let ls = setting-legal c b in

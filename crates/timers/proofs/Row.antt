@@ -5,16 +5,17 @@ use Prim.Native.Nat.{ℕ, _+_, _%_}
 use native.Mathlib.Nat.{zero-add, add-comm, add-right-comm}
 use lib.Dec.{eqb}
 use Rattle.timers.specs.Iter.{iter}
-use Rattle.timers.specs.Clock.{both, cycle, cycles, begun, atDivider, added}
+use Rattle.timers.specs.Clock.{tickBoth, cycle, cycles, begun, atDivider}
 use Rattle.timers.specs.declared.Source.the-variants.{Divider}
 use Rattle.timers.specs.declared.Setting.{Setting}
 use Rattle.timers.specs.declared.Moving.{Moving}
 use Rattle.timers.specs.declared.Spanned.{Spanned}
 use Rattle.timers.proofs.Iterate.{iter-split, iter-past}
+use Rattle.timers.specs.ForCode.{added}
 
 module _ (s : Setting) (e0 e1 : ℕ) where
-  both-added : (x : Spanned) → both Divider s (added x e0 e1) ≡ added (both Divider s x) e0 e1
-  unfolding both
+  both-added : (x : Spanned) → tickBoth Divider s (added x e0 e1) ≡ added (tickBoth Divider s x) e0 e1
+  unfolding tickBoth
   both-added x = rw (add-right-comm (x .ends0) e0, add-right-comm (x .ends1) e1)
 
   cycle-added : (x : Spanned) → cycle s (added x e0 e1) ≡ added (cycle s x) e0 e1

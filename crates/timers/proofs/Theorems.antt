@@ -8,7 +8,7 @@ use Rattle.word.proofs.Computed.{by-test}
 use Rattle.timers.specs.Iter.{iter}
 use Rattle.timers.specs.Control.{setupOf, settingOf}
 use Rattle.timers.specs.Timer.{tick, moves, ticked}
-use Rattle.timers.specs.Clock.{both, cycle, cycles, begun, atDivider, edgeOf}
+use Rattle.timers.specs.Clock.{tickBoth, cycle, cycles, begun, atDivider, edgeOf}
 use Rattle.timers.specs.declared.Control.{Control}
 use Rattle.timers.specs.declared.Source.{Source}
 use Rattle.timers.specs.declared.Source.the-variants.{Divider, Edges}
@@ -22,7 +22,7 @@ use Rattle.timers.specs.declared.Spanned.{Spanned}
 -- an edge of P31 leaves T0 and the divider, whatever the registers say
 pub edge-leaves-t0 : (c : Control) (m : Moving)
     → (edgeOf (settingOf c) m .now .t0 ≡ m .t0) × (edgeOf (settingOf c) m .ends0 ≡ 0) × (edgeOf (settingOf c) m .now .divider ≡ m .divider)
-unfolding edgeOf both ticked settingOf setupOf
+unfolding edgeOf tickBoth ticked settingOf setupOf
 edge-leaves-t0 c m = (rw (and-false (m .t0 .enabled)), rw (and-false (m .t0 .enabled)), refl)
 
 -- a tick ends a count at most once, and so do a cycle and an edge
@@ -40,8 +40,8 @@ module _ (s : Setting) where
   abbrev pub Within : ℕ → Spanned → Type 0
   Within n x = (x .ends0 ≤ n) × (x .ends1 ≤ n)
 
-  both-within : (by : Source) (n : ℕ) (x : Spanned) → Within n x → Within (suc n) (both by s x)
-  unfolding both
+  both-within : (by : Source) (n : ℕ) (x : Spanned) → Within n x → Within (suc n) (tickBoth by s x)
+  unfolding tickBoth
   both-within by n x h =
       (omega (arith, h .0, ticked-ends by (s .t0) (x .now .t0)), omega (arith, h .1, ticked-ends by (s .t1) (x .now .t1)))
 

@@ -1,13 +1,13 @@
 -- The divider and both timers, one cycle at a time (01 "The timers", "One step"). Assumes nothing.
 use mathlib.Core.Path.{_≡_}
-use mathlib.Core.Bool.{Bool, true, false, not, _&&_, _||_}
-use Prim.Native.Nat.{ℕ, _+_, _-_, _*_, _/_, _%_, _≤_, _<_}
+use mathlib.Core.Bool.{Bool, true, not, _&&_, _||_}
+use Prim.Native.Nat.{ℕ, _+_, _-_, _*_, _%_, _≤_, _<_}
 use lib.Dec.{eqb}
 use Rattle.word.specs.Choose.{pick}
 use Rattle.timers.specs.Iter.{iter}
 use Rattle.timers.specs.Requests.{latch}
 use Rattle.timers.specs.Control.{load0, enable0, load1, enable1, settingOf}
-use Rattle.timers.specs.Timer.{moves, ticked, timerWritten, fewOf, LegalSetup, LegalCounting}
+use Rattle.timers.specs.Timer.{ticked, timerWritten, LegalSetup, LegalCounting}
 use Rattle.timers.specs.declared.Control.{Control}
 use Rattle.timers.specs.declared.Source.{Source}
 use Rattle.timers.specs.declared.Source.the-variants.{Divider, Edges}
@@ -17,8 +17,6 @@ use Rattle.timers.specs.declared.Counting.{Counting}
 use Rattle.timers.specs.declared.Lines.{Lines}
 use Rattle.timers.specs.declared.Moving.{Moving}
 use Rattle.timers.specs.declared.Spanned.{Spanned}
-use Rattle.timers.specs.declared.clock.Round.{Round}
-use Rattle.timers.specs.declared.clock.Counts.{Counts}
 
 -- T_OUT the other way round, where the timer drives it
 abbrev pub flips : Bool → Bool → Bool
@@ -29,8 +27,8 @@ unfoldable pub endOf : Setup → Lines → Lines
 endOf s l = record { irq = latch (s .request) (l .irq); tout = flips (s .drives) (l .tout) }
 
 -- one tick from this source for both timers; each that ends, once, does what its end does
-unfoldable pub both : Source → Setting → Spanned → Spanned
-both by s x =
+unfoldable pub tickBoth : Source → Setting → Spanned → Spanned
+tickBoth by s x =
     let a0 = ticked by (s .t0) (x .now .t0) in
     let a1 = ticked by (s .t1) (x .now .t1) in
     record {
@@ -53,19 +51,20 @@ atDivider x d =
 unfoldable pub cycle : Setting → Spanned → Spanned
 cycle s x =
     let d = (x .now .divider + 1) % 4 in
-    pick (eqb d 0) (both Divider s (atDivider x d)) (atDivider x d)
+    pick (eqb d 0) (tickBoth Divider s (atDivider x d)) (atDivider x d)
 
 -- no ends yet
 abbrev pub begun : Moving → Spanned
 begun m = record { now = m; ends0 = 0; ends1 = 0 }
 
--- n cycles, one by one, with each timer's ends counted. "A span is any count from 0 to 4,294,967,295. It compares no pins".
+-- n cycles, one by one, with the registers as they stand and each timer's ends counted. (A machine's own, which read its registers at each
+-- cycle, are `spanOf`; that the two are the same is proved: `span-is`.)
 unfoldable pub cycles : Setting → ℕ → Moving → Spanned
 cycles s n m = iter n (cycle s) (begun m)
 
 -- a falling edge of P31
 unfoldable pub edgeOf : Setting → Moving → Spanned
-edgeOf s m = both Edges s (begun m)
+edgeOf s m = tickBoth Edges s (begun m)
 
 -- T_OUT after a write to TMR. One that loads the timer "sets T_OUT to 1 if the byte written chooses that timer".
 unfoldable pub toutWritten : Setup → Bool → Bool → Bool
@@ -83,7 +82,7 @@ written c m =
       lines = record { irq = m .lines .irq; tout = toutWritten (s .t1) (load1 v) (toutWritten (s .t0) (load0 v) (m .lines .tout)) };
     }
 
--- what the registers can say of both timers
+-- for the laws: what the registers can say of both timers
 pub record LegalSetting (s : Setting) : Type 0 where
   pub setup0 : LegalSetup (s .t0)
   pub setup1 : LegalSetup (s .t1)
@@ -96,25 +95,7 @@ pub record LegalMoving (m : Moving) : Type 0 where
   pub counting1 : LegalCounting (m .t1)
   pub irq-high : m .lines .irq < 64
 
--- For the code: the ticks in n cycles and the divider after them; whether they are so few that no count ends, and the divider and both
--- counts then; where one ends, they are as before.
-abbrev pub roundOf : ℕ → ℕ → Round
-roundOf divider n = record { ticks = (divider + n) / 4; divider = (divider + n) % 4 }
-
-abbrev pub asBefore : Moving → Counts
-asBefore m = record { few = false; divider = m .divider; t0 = m .t0 .timer; t1 = m .t1 .timer }
-
-unfoldable pub fewCycles : Setting → ℕ → Moving → Counts
-fewCycles s n m =
-    let k = (m .divider + n) / 4 in
-    let a0 = fewOf (moves Divider (s .t0) (m .t0)) (s .t0 .p) k (m .t0 .timer) in
-    let a1 = fewOf (moves Divider (s .t1) (m .t1)) (s .t1 .p) k (m .t1 .timer) in
-    pick (a0 .few && a1 .few) (record { few = true; divider = (m .divider + n) % 4; t0 = a0 .timer; t1 = a1 .timer }) (asBefore m)
-
--- For the theorems. The same with ends added; and either timer's part, as the closed formula speaks of either.
-abbrev pub added : Spanned → ℕ → ℕ → Spanned
-added x e0 e1 = record { now = x .now; ends0 = x .ends0 + e0; ends1 = x .ends1 + e1 }
-
+-- The closed formula, of either timer.
 pub data Which : Type 0 where
   T0 : Which
   T1 : Which

@@ -62,8 +62,8 @@ unfoldable pub edgesMoveT1 : Bool → ℕ → Bool
 edgesMoveT1 internal mode = not internal && eqb mode 0
 
 -- "T0's end latches request 4, T1's request 5. The end of the timer chosen by TMR bits 7 and 6 (01 T0, 10 T1, else none) flips T_OUT."
--- T0 "is driven by the internal clock only" (002). "P31 is as in the last pins." And this is all that the registers do to a timer:
--- "Writing F2 to F5 alone moves no count."
+-- T0 "is driven by the internal clock only" (002). "P31 is as in the last pins." Of F2 to F5 a timer sees no more than this, and sees it at a
+-- tick or a load: "Writing F2 to F5 alone moves no count."
 unfoldable pub settingOf : Control → Setting
 settingOf c =
     let mode = tinMode (c .tmr) in
@@ -83,8 +83,8 @@ settingOf c =
 unfoldable pub kept : ℕ → ℕ
 kept v = bitAnd v 0xFA
 
--- the registers hold bytes
-pub record Bytes (c : Control) : Type 0 where
+-- for the laws: the registers hold bytes
+pub record ControlBytes (c : Control) : Type 0 where
   pub t1-byte : c .t1 < 256
   pub pre1-byte : c .pre1 < 256
   pub t0-byte : c .t0 < 256

@@ -1,18 +1,15 @@
 -- One timer, T0 or T1 alike (01 "The timers"; 004 11.3). Assumes nothing.
-use mathlib.Core.Bool.{Bool, true, false, not, _&&_, _||_}
-use Prim.Native.Nat.{ℕ, _+_, _-_, _*_, _/_, _%_, _≤_, _<_}
+use mathlib.Core.Bool.{Bool, false, _&&_}
+use Prim.Native.Nat.{ℕ, _-_, _≤_, _<_}
 use lib.Dec.{ltb}
 use Rattle.word.specs.Choose.{pick}
-use Rattle.timers.specs.Iter.{iter}
 use Rattle.timers.specs.declared.Source.{Source}
 use Rattle.timers.specs.declared.Source.the-variants.{Divider, Edges}
 use Rattle.timers.specs.declared.Setup.{Setup}
 use Rattle.timers.specs.declared.Counting.{Counting}
 use Rattle.timers.specs.declared.Ticked.{Ticked}
-use Rattle.timers.specs.declared.Timer.{Timer}
-use Rattle.timers.specs.declared.ticks.Counted.{Counted}
 
--- the count at other numbers, and after the end of a single pass. These two and `timerWritten` alone make a count in progress.
+-- the count at other numbers, and after the end of a single pass: in a tick or a write these two and `timerWritten` alone make the new count
 abbrev pub countAt : Counting → ℕ → ℕ → Counting
 countAt c prescaler counter = record { timer = record { prescaler = prescaler; counter = counter }; enabled = c .enabled }
 
@@ -64,38 +61,3 @@ pub record LegalCounting (c : Counting) : Type 0 where
   pub prescaler-high : c .timer .prescaler ≤ 64
   pub counter-low : 0 < c .timer .counter
   pub counter-high : c .timer .counter ≤ 256
-
--- For the contracts of the move by division alone: one tick more, its end counted; k ticks; whether they leave the timer within this
--- round of its prescaler, and its count then; and a count of so many whole rounds of the prescaler, r ticks later.
-unfoldable pub more : Source → Setup → Ticked → Ticked
-more by s a =
-    let b = ticked by s (a .counting) in
-    record { counting = b .counting; ends = a .ends + b .ends }
-
-unfoldable pub ticks : Source → Setup → ℕ → Counting → Ticked
-ticks by s k c = iter k (more by s) (noEnd c)
-
-unfoldable pub isShort : Source → Setup → ℕ → Counting → Bool
-isShort by s k c = not (moves by s c) || ltb k (c .timer .prescaler)
-
-unfoldable pub shortly : Source → Setup → ℕ → Counting → Counting
-shortly by s k c = pick (moves by s c) (countAt c (c .timer .prescaler - k) (c .timer .counter)) c
-
-abbrev pub down : Counting → ℕ → ℕ → ℕ → Counting
-down c p rounds r = countAt c (p - r % p) (rounds - r / p)
-
--- For the contracts of the short move: whether k ticks are so few that the count doesn't end, and the count after them; where it ends, as
--- before. Of ticks that pass this round of the prescaler; and of any, which move the timer or don't.
-abbrev pub fewTo : ℕ → ℕ → Counted
-fewTo prescaler counter = record { few = true; timer = record { prescaler = prescaler; counter = counter } }
-
-unfoldable pub turnedOf : ℕ → ℕ → Timer → Counted
-turnedOf p k t =
-    let past = k - t .prescaler in
-    pick (ltb past (p * (t .counter - 1))) (fewTo (p - past % p) (t .counter - 1 - past / p)) (record { few = false; timer = t })
-
-unfoldable pub fewOf : Bool → ℕ → ℕ → Timer → Counted
-fewOf moving p k t =
-    pick moving
-    (pick (ltb k (t .prescaler)) (fewTo (t .prescaler - k) (t .counter)) (turnedOf p k t))
-    (record { few = true; timer = t })

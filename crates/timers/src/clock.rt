@@ -13,7 +13,8 @@ ghost use Rattle.timers.specs.Iter.{iter};
 ghost use Rattle.timers.specs.Requests.{latch};
 ghost use Rattle.timers.specs.Control.{settingOf};
 ghost use Rattle.timers.specs.Timer.{LegalSetup};
-ghost use Rattle.timers.specs.Clock.{flips, endOf, both, begun, cycles, edgeOf, toutWritten, written, roundOf, asBefore, fewCycles, LegalSetting, LegalMoving};
+ghost use Rattle.timers.specs.Clock.{flips, endOf, tickBoth, begun, cycles, edgeOf, toutWritten, written, LegalSetting, LegalMoving};
+ghost use Rattle.timers.specs.ForCode.{roundOf, asBefore, fewCycles};
 
 // IRQ after e ends that latch request n.
 fn raised(n: u8, irq: u8, e: u32) -> u8
@@ -51,7 +52,7 @@ fn ended(s: Setup, l: Lines, e: u32) -> Lines
 fn tick_both(by: Source, s: Setting, m: Moving, k: u32) -> Spanned
     requires { ⌜ LegalSetting s ⌝ }
     requires { ⌜ LegalMoving m ⌝ }
-    ensures { λ r. ⌜ r ≡ iter k (both by s) (begun m) ⌝ }
+    ensures { λ r. ⌜ r ≡ iter k (tickBoth by s) (begun m) ⌝ }
 {
     let divider = m.divider;
     let s0 = s.t0;

@@ -8,7 +8,8 @@ ghost use mathlib.Core.Path.{_≡_};
 ghost use mathlib.Core.Bool.{true};
 ghost use Prim.Native.Nat.{_*_, _/_, _≤_, _<_};
 ghost use Rattle.timers.specs.Control.{orHighest};
-ghost use Rattle.timers.specs.Timer.{countAt, takes, moves, stopped, isShort, shortly, down, turnedOf, fewOf, ticks, timerWritten, LegalSetup, LegalCounting};
+ghost use Rattle.timers.specs.Timer.{countAt, takes, moves, stopped, timerWritten, LegalSetup, LegalCounting};
+ghost use Rattle.timers.specs.ForCode.{isShort, shortly, down, turnedOf, fewOf, ticks};
 
 // Whether the timer takes ticks from this source.
 fn takes(by: Source, s: Setup) -> bool

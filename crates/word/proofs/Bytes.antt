@@ -10,7 +10,7 @@ use lib.IntN.{ℤ, pos, negsuc, natAbs, _+ℤ_, _-ℤ_}
 use lib.Signed.{nonNeg, mag}
 use mir.Syntax.{w16}
 use mir.Val.{SFits, toZ, ofZ}
-use Rattle.word.proofs.Computed.{by-test, below, at, agree, under}
+use Rattle.word.proofs.Computed.{by-test, at, agree, under}
 use Rattle.word.specs.Words.{dispOf, movedBy, plus}
 
 abbrev sameZ : ℤ → ℤ → Bool

@@ -10,3 +10,7 @@ pick false a b = b
 -- 1 where the test holds, else 0
 abbrev pub oneIf : Bool → ℕ
 oneIf b = pick b 1 0
+
+-- these bits where the test holds, else none
+abbrev pub bitsIf : Bool → ℕ → ℕ
+bitsIf test bits = pick test bits 0

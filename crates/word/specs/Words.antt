@@ -8,7 +8,8 @@ use Rattle.word.specs.Choose.{pick}
 abbrev pub plus : ℕ → ℕ → ℕ
 plus w n = (w + n) % 65536
 
--- an operand byte as a displacement, -128 to 127: below 80 (hexadecimal) itself, else 256 less. `negsuc n` is -(n + 1).
+-- an operand byte as a displacement, "-128 to 127" (01), a "two's-complement signed displacement" (004, 4.6): below 80 (hexadecimal) itself, else
+-- 256 less. `negsuc n` is -(n + 1).
 unfoldable pub dispOf : ℕ → ℤ
 dispOf b = pick (ltb b 128) (pos b) (negsuc (255 - b))
 

@@ -7,10 +7,12 @@ use lib.ListN.{length}
 use borrow.Author.Tests.{eqb-true, eq-eqb, ne-eqb}
 use Rattle.word.specs.Choose.{pick}
 use Rattle.word.proofs.Computed.{by-test}
-use Rattle.saved.specs.Saved.{machineOf, refusalOf, loadOf}
+use Rattle.saved.specs.Saved.{machineOf, firstOf, refusalOf}
 use Rattle.saved.specs.declared.Loaded.{Loaded}
 use Rattle.saved.proofs.RoundTrip.{loads-268}
-use Rattle.z8.specs.Calls.{Answer, answer, firstOf, imageRefusal, memoryRefusal, admittedOf}
+use Rattle.z8.specs.Calls.{Answer, answer, imageRefusal, memoryRefusal}
+use Rattle.saved.specs.ForCode.{loadOf}
+use Rattle.z8.specs.ForCode.{admittedOf}
 
 -- one test more counts where none before it applies
 pub one-more : (l : List ℕ) (n : ℕ) → firstOf (l ++ n ∷ []) ≡ pick (eqb (firstOf l) 0) n (firstOf l)

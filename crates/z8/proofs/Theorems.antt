@@ -11,14 +11,14 @@ use Rattle.machine.specs.Legal.{Legal}
 use Rattle.machine.specs.Start.{madeOf, resetOf}
 use Rattle.machine.specs.declared.Machine.{Machine}
 use Rattle.machine.specs.declared.Pins.{Pins}
-use Rattle.machine.proofs.Legal.{LegalPins, made-legal, standard-legal, reset-legal, span-legal}
+use Rattle.machine.proofs.Legal.{LegalPins, made-legal, default-legal, reset-legal, span-legal}
 use Rattle.deeds.proofs.Fits.{AllRead}
-use Rattle.saved.specs.Saved.{byte, machineOf, savedOf, refusalOf}
+use Rattle.saved.specs.Saved.{byte, machineOf, savedOf, firstOf, lengthRefusal, refusalOf}
 use Rattle.saved.proofs.RoundTrip.{bytes-and-back, machine-and-back}
 use Rattle.step.specs.Step.{Progress, stepOf}
-use Rattle.step.specs.Run.{runOf}
+use Rattle.step.specs.Run.{budgetRefusal, runOf}
 use Rattle.step.proofs.Theorems.{step-legal, run-legal}
-use Rattle.z8.specs.Calls.{Answer, Lent, LentSpan, Four, answer, lentSpan, firstOf, lengthRefusal, imageRefusal, memoryRefusal, budgetRefusal, unlessRefused, leftBy, makeOf, makeDefaultOf, resetCallOf, decodeCallOf, encodeCallOf, stepCallOf, runCallOf, spanCallOf}
+use Rattle.z8.specs.Calls.{Answer, Lent, LentSpan, Four, answer, lentSpan, imageRefusal, memoryRefusal, unlessRefused, leftBy, makeOf, makeDefaultOf, resetCallOf, decodeCallOf, encodeCallOf, stepCallOf, runCallOf, spanCallOf}
 use Rattle.z8.proofs.Refusals.{is-refused, is-done}
 
 -- ---- "Show that any two results allowed are equal": a contract is `answer n left ≡ x`, x made of all that was given.
@@ -112,7 +112,7 @@ pub make-default-leaves-legal : (saved : List ℕ) → makeDefaultOf saved .numb
 unfolding makeDefaultOf
 make-default-leaves-legal saved =
     by-test (λ (a : Answer (List ℕ)). a .number ≡ 0 → refusalOf (a .left) ≡ 0) (eqb (lengthRefusal saved) 0)
-    (λ t e. saves-legal standard-legal)
+    (λ t e. saves-legal default-legal)
     (λ t e. absurd (eqb-false (lengthRefusal saved) 0 t e))
 
 module _ (saved : List ℕ) (bytes : (i : ℕ) → byte saved i < 256) (legal : refusalOf saved ≡ 0) where

@@ -8,15 +8,18 @@ use Rattle.machine.specs.declared.Machine.{Machine}
 use Rattle.machine.specs.declared.Pins.{Pins}
 use Rattle.machine.proofs.Legal.{LegalPins}
 use Rattle.deeds.proofs.Fits.{AllRead}
-use Rattle.saved.specs.Saved.{machineOf, savedOf, loadOf}
+use Rattle.saved.specs.Saved.{machineOf, savedOf}
 use Rattle.step.specs.Step.{Progress, stepOf}
-use Rattle.step.specs.Run.{steppedOf, passedOf}
+use Rattle.step.specs.Run.{budgetRefusal}
 use Rattle.step.specs.declared.Stepped.{Stepped}
 use Rattle.step.specs.declared.Passed.{Passed}
 use Rattle.step.proofs.Theorems.{refused-step}
 use Rattle.saved.specs.declared.Loaded.{Loaded}
-use Rattle.z8.specs.Calls.{Lent, answer, lent, lentSpan, leftBy, budgetRefusal, admittedOf, stepCallOf, runCallOf}
+use Rattle.z8.specs.Calls.{Lent, answer, lent, lentSpan, leftBy, stepCallOf, runCallOf}
 use Rattle.z8.proofs.Refusals.{is-refused, not-admitted}
+use Rattle.saved.specs.ForCode.{loadOf}
+use Rattle.step.specs.ForCode.{steppedOf, passedOf}
+use Rattle.z8.specs.ForCode.{admittedOf}
 
 -- what a step or a run is, by value and beside the memory, and saved
 pub left-is : (s : Stepped) (memory saved : List ℕ) (t : Progress) → steppedOf memory s ≡ t → saved ≡ savedOf (s .machine)

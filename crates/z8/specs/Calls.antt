@@ -11,12 +11,12 @@ use Rattle.opcodes.specs.declared.Decoded.the-variants as decoded
 use Rattle.opcodes.specs.declared.Encoded.{Encoded}
 use Rattle.opcodes.specs.declared.Encoded.the-variants as encoded
 use Rattle.machine.specs.Clock.{spanOf}
-use Rattle.machine.specs.Start.{madeOf, standardOf, resetOf}
+use Rattle.machine.specs.Start.{madeOf, defaultOf, resetOf}
 use Rattle.machine.specs.declared.Pins.{Pins}
 use Rattle.execute.specs.Execute.{codeAt}
-use Rattle.saved.specs.Saved.{machineOf, savedOf, refusalOf}
+use Rattle.saved.specs.Saved.{machineOf, savedOf, firstOf, lengthRefusal, refusalOf}
 use Rattle.step.specs.Step.{Progress, stepOf}
-use Rattle.step.specs.Run.{budgetLimit, runOf}
+use Rattle.step.specs.Run.{budgetRefusal, runOf}
 
 -- ---- what is lent, and what is left
 
@@ -59,20 +59,13 @@ abbrev pub four : ℕ → ℕ → ℕ → ℕ → Four
 four one two three length = record { one = one; two = two; three = three; length = length }
 
 -- the pins of ports 0 to 3
-abbrev pub pinsOf : ℕ → ℕ → ℕ → ℕ → Pins
-pinsOf pins0 pins1 pins2 pins3 = record { port0 = pins0; port1 = pins1; port2 = pins2; port3 = pins3 }
+abbrev pub pinsGiven : ℕ → ℕ → ℕ → ℕ → Pins
+pinsGiven pins0 pins1 pins2 pins3 = record { port0 = pins0; port1 = pins1; port2 = pins2; port3 = pins3 }
 
 -- ---- refusals
 
--- "The first that applies, tested in the order 7, 6, 1, 2, 3, 4, 5, 8, among those that the call can meet." A test that doesn't apply is 0;
--- 7 and 6 are `refusalOf`, in that order.
-abbrev pub firstOf : List ℕ → ℕ
-firstOf [] = 0
-firstOf (n ∷ ns) = pick (eqb n 0) (firstOf ns) n
-
--- "saved machine not 268 bytes"
-abbrev pub lengthRefusal : List ℕ → ℕ
-lengthRefusal saved = pick (eqb (length saved) 268) 0 7
+-- Each call lists those that it can meet, and the first of them that applies answers (`firstOf`): 7 is `lengthRefusal`, 7 and 6 together are
+-- `refusalOf`, 4 is `budgetRefusal`.
 
 -- "program image over 65,536 bytes"
 abbrev pub imageRefusal : List ℕ → ℕ
@@ -82,13 +75,9 @@ imageRefusal image = pick (ltb 65536 (length image)) 1 0
 abbrev pub memoryRefusal : List ℕ → ℕ
 memoryRefusal memory = pick (ltb 65536 (length memory)) 2 0
 
--- "run budget over 1,000,000 cycles"
-abbrev pub budgetRefusal : ℕ → ℕ
-budgetRefusal budget = pick (ltb budgetLimit budget) 4 0
-
 -- "number alone, nothing changed": what was lent, where it is refused; else what the call does, and 0
 abbrev pub unlessRefused : {A : Type 0} → ℕ → A → A → Answer A
-unlessRefused refusal lent done = pick (eqb refusal 0) (answer 0 done) (answer refusal lent)
+unlessRefused refusal given done = pick (eqb refusal 0) (answer 0 done) (answer refusal given)
 
 -- ---- the calls
 
@@ -100,7 +89,9 @@ makeOf kind cost saved =
 
 -- "type 11 and entry cost 20 unless others are named": 7
 unfoldable pub makeDefaultOf : List ℕ → Answer (List ℕ)
-makeDefaultOf saved = unlessRefused (lengthRefusal saved) saved (savedOf standardOf)
+makeDefaultOf saved = unlessRefused (lengthRefusal saved) saved (savedOf defaultOf)
+
+-- checking: 7, 6. It is `refusalOf` itself, as nothing is lent to be written.
 
 -- reset: 7, 6
 unfoldable pub resetCallOf : List ℕ → Answer (List ℕ)
@@ -108,23 +99,23 @@ resetCallOf saved = unlessRefused (refusalOf saved) saved (savedOf (resetOf (mac
 
 -- decoding: 1, 5. What stands at the address is decoded if the image isn't refused.
 abbrev pub decodedInto : Four → Decoded → Answer Four
-decodedInto lent (decoded.Instruction op first second length) = answer 0 (four op first second length)
-decodedInto lent (decoded.Refused n) = answer n lent
+decodedInto given (decoded.Instruction op first second length) = answer 0 (four op first second length)
+decodedInto given (decoded.Refused n) = answer n given
 
 unfoldable pub decodeCallOf : List ℕ → ℕ → Four → Answer Four
-decodeCallOf image at lent =
+decodeCallOf image at given =
     let i = codeAt image at in
     pick (eqb (imageRefusal image) 0)
-    (decodedInto lent (decodeOf (i .op) (i .first) (i .second)))
-    (answer (imageRefusal image) lent)
+    (decodedInto given (decodeOf (i .op) (i .first) (i .second)))
+    (answer (imageRefusal image) given)
 
 -- encoding: 8
 abbrev pub encodedInto : Four → Encoded → Answer Four
-encodedInto lent (encoded.Bytes length b0 b1 b2) = answer 0 (four b0 b1 b2 length)
-encodedInto lent (encoded.Refused n) = answer n lent
+encodedInto given (encoded.Bytes length b0 b1 b2) = answer 0 (four b0 b1 b2 length)
+encodedInto given (encoded.Refused n) = answer n given
 
 unfoldable pub encodeCallOf : ℕ → ℕ → ℕ → Four → Answer Four
-encodeCallOf op first second lent = encodedInto lent (encodeOf op first second)
+encodeCallOf op first second given = encodedInto given (encodeOf op first second)
 
 -- what a step or a run comes to, in the places lent
 abbrev pub leftBy : Progress → Lent
@@ -148,7 +139,3 @@ unfoldable pub spanCallOf : ℕ → LentSpan → Answer LentSpan
 spanCallOf n l =
     let r = spanOf n (machineOf (l .saved)) in
     unlessRefused (refusalOf (l .saved)) l (lentSpan (savedOf (r .machine)) (r .ends0) (r .ends1))
-
--- for the code: the first of 7, 6, 1, 2, where the saved machine's own refusal, 7, 6 or 0, is known
-unfoldable pub admittedOf : ℕ → List ℕ → List ℕ → ℕ
-admittedOf refusal image memory = firstOf (refusal ∷ imageRefusal image ∷ memoryRefusal memory ∷ [])

@@ -6,7 +6,8 @@ use opcodes::Decoded;
 use opcodes::Encoded;
 ghost use mathlib.Core.Path.{_≡_};
 ghost use Rattle.saved.specs.Saved.{refusalOf};
-ghost use Rattle.z8.specs.Calls.{answer, lent, lentSpan, four, pinsOf, admittedOf, makeOf, makeDefaultOf, resetCallOf, decodeCallOf, encodeCallOf, stepCallOf, runCallOf, spanCallOf};
+ghost use Rattle.z8.specs.Calls.{answer, lent, lentSpan, four, pinsGiven, makeOf, makeDefaultOf, resetCallOf, decodeCallOf, encodeCallOf, stepCallOf, runCallOf, spanCallOf};
+ghost use Rattle.z8.specs.ForCode.{admittedOf};
 
 const SAVED_LEN: usize = 268;
 
@@ -49,7 +50,7 @@ pub extern "C" fn z8_make_default(saved: &mut [u8]) -> u32
     if saved.len() != SAVED_LEN {
         return LENGTH_NOT_268;
     }
-    let m = Machine::standard();
+    let m = Machine::default();
     saved::save(&mut *saved, m);
     DONE
 }
@@ -163,7 +164,7 @@ pub extern "C" fn z8_step(
     ends0: &mut u32,
     ends1: &mut u32,
 ) -> u32
-    ensures { λ r. ⌜ answer r (lent (now (saved .exit)) (now (memory .exit)) (now (cycles .exit)) (now (ends0 .exit)) (now (ends1 .exit))) ≡ stepCallOf (pinsOf pins0 pins1 pins2 pins3) (now (image .entry)) (lent (now (saved .entry)) (now (memory .entry)) (now (cycles .entry)) (now (ends0 .entry)) (now (ends1 .entry))) ⌝ }
+    ensures { λ r. ⌜ answer r (lent (now (saved .exit)) (now (memory .exit)) (now (cycles .exit)) (now (ends0 .exit)) (now (ends1 .exit))) ≡ stepCallOf (pinsGiven pins0 pins1 pins2 pins3) (now (image .entry)) (lent (now (saved .entry)) (now (memory .entry)) (now (cycles .entry)) (now (ends0 .entry)) (now (ends1 .entry))) ⌝ }
 {
     let loaded = saved::load(&*saved);
     let refusal = admitted(loaded.refusal, image, &*memory);
@@ -204,7 +205,7 @@ pub extern "C" fn z8_run(
     ends0: &mut u32,
     ends1: &mut u32,
 ) -> u32
-    ensures { λ r. ⌜ answer r (lent (now (saved .exit)) (now (memory .exit)) (now (cycles .exit)) (now (ends0 .exit)) (now (ends1 .exit))) ≡ runCallOf (pinsOf pins0 pins1 pins2 pins3) (now (image .entry)) budget (lent (now (saved .entry)) (now (memory .entry)) (now (cycles .entry)) (now (ends0 .entry)) (now (ends1 .entry))) ⌝ }
+    ensures { λ r. ⌜ answer r (lent (now (saved .exit)) (now (memory .exit)) (now (cycles .exit)) (now (ends0 .exit)) (now (ends1 .exit))) ≡ runCallOf (pinsGiven pins0 pins1 pins2 pins3) (now (image .entry)) budget (lent (now (saved .entry)) (now (memory .entry)) (now (cycles .entry)) (now (ends0 .entry)) (now (ends1 .entry))) ⌝ }
 {
     let loaded = saved::load(&*saved);
     let refusal = admitted(loaded.refusal, image, &*memory);

@@ -1,14 +1,6 @@
 use borrow.Author.Needs.{needs}
 use Rattle.examples.proofs.run.Statement.{statement}
 use Rattle.examples.proofs.run.Tie as tie
-use Rattle.examples.proofs.run.Reads as reads
-use Rattle.examples.proofs.run.Lts as lts
-use Rattle.examples.proofs.count.Reads as count-reads
-use Rattle.examples.proofs.end.Reads as end-reads
-use Rattle.examples.proofs.fresh.Reads as fresh-reads
-use Rattle.examples.proofs.high.Reads as high-reads
-use Rattle.saved.proofs.load.Reads as load-reads
-use Rattle.step.proofs.run.Reads as run-reads
 
 fresh-requires : tie.Need-fresh-requires
 fresh-requires c κs = search needs

@@ -1,14 +1,6 @@
 use borrow.Author.Needs.{needs}
 use Rattle.examples.proofs.span.Statement.{statement}
 use Rattle.examples.proofs.span.Tie as tie
-use Rattle.examples.proofs.span.Reads as reads
-use Rattle.examples.proofs.span.Lts as lts
-use Rattle.examples.proofs.count.Reads as count-reads
-use Rattle.examples.proofs.end.Reads as end-reads
-use Rattle.examples.proofs.fresh.Reads as fresh-reads
-use Rattle.io.proofs.write_all.Reads as write-all-reads
-use Rattle.saved.proofs.load.Reads as load-reads
-use Rattle.step.proofs.span.Reads as span-reads
 
 fresh-requires : tie.Need-fresh-requires
 fresh-requires c κs = search needs

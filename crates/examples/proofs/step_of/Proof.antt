@@ -1,17 +1,6 @@
 use borrow.Author.Needs.{needs}
 use Rattle.examples.proofs.step_of.Statement.{statement}
 use Rattle.examples.proofs.step_of.Tie as tie
-use Rattle.examples.proofs.step_of.Reads as reads
-use Rattle.examples.proofs.step_of.Lts as lts
-use Rattle.examples.proofs.byte.Reads as byte-reads
-use Rattle.examples.proofs.count.Reads as count-reads
-use Rattle.examples.proofs.end.Reads as end-reads
-use Rattle.examples.proofs.high.Reads as high-reads
-use Rattle.examples.proofs.word.Reads as word-reads
-use Rattle.io.proofs.write_all.Reads as write-all-reads
-use Rattle.saved.proofs.load.Reads as load-reads
-use Rattle.saved.proofs.save.Reads as save-reads
-use Rattle.step.proofs.step.Reads as step-reads
 
 load-requires : tie.Need-load-requires
 load-requires c κs = search needs

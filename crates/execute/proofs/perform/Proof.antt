@@ -24,12 +24,12 @@ at-pc-requires c κs = search needs
 deed-requires : tie.Need-deed-requires
 deed-requires c κs = search needs
 
-carry-out-requires : tie.Need-carry-out-requires
-carry-out-requires c κs = search needs
+do-deed-requires : tie.Need-do-deed-requires
+do-deed-requires c κs = search needs
 
 returns : tie.Need-returns
 unfolding performOf withPc
-returns c = let next : c .before .before .before .before .before .at-pc .result ≡ atPc (c .before .before .before .before .before .before .before .before .before .before .args .k) (plus (c .before .before .before .before .before .before .before .before .before .before .args .k .pc) (lengthOf (c .before .before .before .before .before .before .before .before .before .before .args .i .op))) = c .before .before .before .before .before .at-pc .ensures ∙ ap (atPc (c .before .before .before .before .before .before .before .before .before .before .args .k)) (c .before .before .before .before .before .before .plus .ensures ∙ ap (plus (c .before .before .before .before .before .before .before .before .before .before .args .k .pc)) (c .before .before .before .before .before .before .before .length-of .ensures)) in let e = rw (c .before .before .before .deed .ensures, next) at (c .before .carry-out .ensures) in rw (c .before .before .before .deed .ensures, next, cycles-by-kind (c .before .before .before .before .before .before .before .before .before .before .args .i .op) _ (c .before .before .before .before .before .before .before .before .before .before .pre), ← e)
+returns c = let next : c .before .before .before .before .before .at-pc .result ≡ atPc (c .before .before .before .before .before .before .before .before .before .before .args .k) (plus (c .before .before .before .before .before .before .before .before .before .before .args .k .pc) (lengthOf (c .before .before .before .before .before .before .before .before .before .before .args .i .op))) = c .before .before .before .before .before .at-pc .ensures ∙ ap (atPc (c .before .before .before .before .before .before .before .before .before .before .args .k)) (c .before .before .before .before .before .before .plus .ensures ∙ ap (plus (c .before .before .before .before .before .before .before .before .before .before .args .k .pc)) (c .before .before .before .before .before .before .before .length-of .ensures)) in let e = rw (c .before .before .before .deed .ensures, next) at (c .before .do-deed .ensures) in rw (c .before .before .before .deed .ensures, next, cycles-by-kind (c .before .before .before .before .before .before .before .before .before .before .args .i .op) _ (c .before .before .before .before .before .before .before .before .before .before .pre), ← e)
 
 pub perform-spec : {M : Type 1} → statement M
 perform-spec =
@@ -40,5 +40,5 @@ perform-spec =
     plus-requires
     at-pc-requires
     deed-requires
-    carry-out-requires
+    do-deed-requires
     returns)

@@ -4,18 +4,18 @@ use Rattle.saved.proofs.load.Tie as tie
 use mathlib.Core.Path.{_∙_, sym}
 use native.Mathlib.Omega.{arith}
 use borrow.Author.Tests.{ne-eqb}
-use Rattle.saved.specs.Saved.{loadOf}
+use Rattle.saved.specs.ForCode.{loadOf}
 use Rattle.saved.proofs.RoundTrip.{loads-268, bytes-and-back}
 
 check-requires : tie.Need-check-requires
 check-requires c κs = search needs
 
-standard-requires : tie.Need-standard-requires
-standard-requires c κs = search needs
+default-requires : tie.Need-default-requires
+default-requires c κs = search needs
 
 returns : tie.Need-returns
 unfolding loadOf
-returns c = (rw (c .standard .ensures, ← c .before .before .check .ensures, ne-eqb _ _ (c .before .if1 .taken)), λ e. absurd (c .before .if1 .taken e))
+returns c = (rw (c .default .ensures, ← c .before .before .check .ensures, ne-eqb _ _ (c .before .if1 .taken)), λ e. absurd (c .before .if1 .taken e))
 
 machine-of-requires : tie.Need-machine-of-requires
 machine-of-requires c κs = loads-268 _ (sym (c .before .check .ensures) ∙ c .if1 .left)
@@ -30,4 +30,4 @@ returns-2 c =
 
 pub load-spec : {M : Type 1} → statement M
 load-spec =
-    tie.close (tie.spec check-requires standard-requires returns machine-of-requires returns-2)
+    tie.close (tie.spec check-requires default-requires returns machine-of-requires returns-2)

@@ -1,9 +1,6 @@
 use borrow.Author.Needs.{needs}
 use Rattle.step.proofs.enter.Statement.{statement}
 use Rattle.step.proofs.enter.Tie as tie
-use Rattle.step.proofs.enter.Reads as reads
-use Rattle.step.proofs.enter.Lts as lts
-use Rattle.interrupts.proofs.entry.enter.Reads as enter-reads
 use mathlib.Core.Path.{ap}
 use Rattle.step.specs.Step.{costingEntry}
 

@@ -6,7 +6,7 @@ use denote.Ref.{now}
 use lib.Dec.{T}
 use borrow.Author.Tests.{not-true, not-false}
 use Rattle.machine.specs.State.{whole}
-use Rattle.step.specs.Step.{isRefusedOf}
+use Rattle.step.specs.ForCode.{isRefusedOf}
 use Rattle.step.proofs.Acts.{granted-is}
 use Rattle.step.proofs.Theorems.{told-refused, told-taken, granted-taken}
 

@@ -1,13 +1,7 @@
 use borrow.Author.Needs.{needs}
 use Rattle.step.proofs.run.Statement.{statement}
 use Rattle.step.proofs.run.Tie as tie
-use Rattle.step.proofs.run.Reads as reads
-use Rattle.step.proofs.run.Lts as lts
-use Rattle.machine.proofs.core_of.Reads as core-of-reads
-use Rattle.step.proofs.by_value.Reads as by-value-reads
-use Rattle.step.proofs.steps.Reads as steps-reads
 use Rattle.step.specs.Run.{budgetLimit, runOf}
-use native.Mathlib.Omega.{arith}
 use mathlib.Core.Path.{_≡_}
 use mathlib.Core.Bool.{true, false}
 use lib.Dec.{ltb}

@@ -1,14 +1,6 @@
 use borrow.Author.Needs.{needs}
 use Rattle.step.proofs.span.Statement.{statement}
 use Rattle.step.proofs.span.Tie as tie
-use Rattle.step.proofs.span.Reads as reads
-use Rattle.step.proofs.span.Lts as lts
-use Rattle.machine.proofs.clock.long_span.Reads as long-span-reads
-use Rattle.machine.proofs.core_of.Reads as core-of-reads
-use Rattle.machine.proofs.machine_of.Reads as machine-of-reads
-use mathlib.Core.Path.{ap, sym}
-use denote.Ref.{now}
-use Rattle.machine.specs.State.{whole}
 
 core-of-requires : tie.Need-core-of-requires
 core-of-requires c κs = search needs

@@ -13,7 +13,7 @@ use Rattle.machine.proofs.Legal.{LegalPins}
 use Rattle.interrupts.specs.Edges.{Comparison}
 use Rattle.interrupts.proofs.Steady.{compared-last}
 use Rattle.interrupts.proofs.Legal.{compared-legal, compared-ends}
-use Rattle.step.specs.Step.{progressOf}
+use Rattle.step.specs.ForCode.{progressOf}
 use Rattle.step.specs.Run.{stepsOf}
 use Rattle.step.proofs.Acts.{read-any}
 use Rattle.step.proofs.Turns.{SoFar, at-first, was-taken, one-on, was-refused, reached, refused-first, compared-before}

@@ -1,8 +1,5 @@
 use Rattle.steps.proofs.draw_program.Statement.{statement}
 use Rattle.steps.proofs.draw_program.Tie as tie
-use Rattle.steps.proofs.draw_program.Reads as reads
-use Rattle.steps.proofs.draw_program.Lts as lts
-use Rattle.steps.proofs.byte.Reads as byte-reads
 use borrow.Author.Needs.{needs}
 use mathlib.Core.Path.{_≡_, _∙_, refl}
 use Prim.Native.Nat.{_-_, _≤_}

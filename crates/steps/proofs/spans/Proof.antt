@@ -1,15 +1,6 @@
 use borrow.Author.Needs.{needs}
 use Rattle.steps.proofs.spans.Statement.{statement}
 use Rattle.steps.proofs.spans.Tie as tie
-use Rattle.steps.proofs.spans.Reads as reads
-use Rattle.steps.proofs.spans.Lts as lts
-use Rattle.saved.proofs.load.Reads as load-reads
-use Rattle.saved.proofs.save.Reads as save-reads
-use Rattle.step.proofs.span.Reads as span-reads
-use Rattle.steps.proofs.draw.Reads as draw-reads
-use Rattle.steps.proofs.draw_saved.Reads as draw-saved-reads
-use Rattle.steps.proofs.mixed.Reads as mixed-reads
-use Rattle.steps.proofs.with_bytes.Reads as with-bytes-reads
 
 slice-aggregate-draw-saved : tie.Need-slice-aggregate-draw-saved
 slice-aggregate-draw-saved c = search needs

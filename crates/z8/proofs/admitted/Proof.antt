@@ -6,7 +6,7 @@ use mathlib.Core.Bool.{true, false}
 use lib.Dec.{eqb, ltb}
 use lib.ListN.{length}
 use denote.Ref.{now}
-use Rattle.z8.specs.Calls.{admittedOf}
+use Rattle.z8.specs.ForCode.{admittedOf}
 
 returns : tie.Need-returns
 unfolding admittedOf

@@ -13,8 +13,8 @@ returns : tie.Need-returns
 unfolding makeDefaultOf
 returns c = let other : eqb (length (now (c .before .before .args .saved))) 268 ≡ false = ne-eqb _ _ (c .if1 .taken) in rw (other)
 
-standard-requires : tie.Need-standard-requires
-standard-requires c κs = search needs
+default-requires : tie.Need-default-requires
+default-requires c κs = search needs
 
 save-requires : tie.Need-save-requires
 save-requires c κs = search needs
@@ -24,8 +24,8 @@ same-length c = search needs
 
 returns-2 : tie.Need-returns-2
 unfolding makeDefaultOf
-returns-2 c = let long : eqb (length (now (c .before .before .before .before .before .before .before .args .saved))) 268 ≡ true = eq-eqb _ _ (c .before .before .before .before .before .if1 .left) in rw (c .before .before .save .ensures, c .before .before .before .before .standard .ensures, long)
+returns-2 c = let long : eqb (length (now (c .before .before .before .before .before .before .before .args .saved))) 268 ≡ true = eq-eqb _ _ (c .before .before .before .before .before .if1 .left) in rw (c .before .before .save .ensures, c .before .before .before .before .default .ensures, long)
 
 pub z8-make-default-spec : {M : Type 1} → statement M
 z8-make-default-spec =
-    tie.close (tie.spec returns standard-requires save-requires same-length returns-2)
+    tie.close (tie.spec returns default-requires save-requires same-length returns-2)

@@ -8,8 +8,8 @@ use denote.Ref.{now}
 use Rattle.machine.specs.declared.Machine.{Machine}
 use Rattle.z8.proofs.Refusals.{is-refused, is-done, load-268, load-machine, admitted-next, admitted-loaded}
 use Rattle.z8.proofs.Ways.{left-is, number-is, no-run}
-use Rattle.z8.specs.Calls.{answer, Lent, budgetRefusal, runCallOf, pinsOf}
-use Rattle.step.specs.Run.{runOf}
+use Rattle.z8.specs.Calls.{answer, Lent, runCallOf, pinsGiven}
+use Rattle.step.specs.Run.{budgetRefusal, runOf}
 
 load-requires : tie.Need-load-requires
 load-requires c κs = search needs
@@ -53,7 +53,7 @@ same-length-6 c = search needs
 
 returns-3 : tie.Need-returns-3
 unfolding runCallOf
-returns-3 c = let within : budgetRefusal (c .before .before .before .before .before .before .before .before .before .before .before .before .before .before .before .before .before .before .before .before .args .budget) ≡ 0 = rw (le-ltb 1000000 (c .before .before .before .before .before .before .before .before .before .before .before .before .before .before .before .before .before .before .before .before .args .budget) (c .before .before .before .before .before .before .before .before .before .before .before .if2 .left)) in ap (λ (x : Lent). answer (c .before .before .before .before .before .before .before .before .run .result .refusal) x) (left-is _ _ _ _ (c .before .before .before .before .before .before .before .before .run .ensures ∙ ap (λ (m : Machine). runOf (pinsOf (c .before .before .before .before .before .before .before .before .before .before .before .before .before .before .before .before .before .before .before .before .args .pins0) (c .before .before .before .before .before .before .before .before .before .before .before .before .before .before .before .before .before .before .before .before .args .pins1) (c .before .before .before .before .before .before .before .before .before .before .before .before .before .before .before .before .before .before .before .before .args .pins2) (c .before .before .before .before .before .before .before .before .before .before .before .before .before .before .before .before .before .before .before .before .args .pins3)) (now (c .before .before .before .before .before .before .before .before .before .before .before .before .before .before .before .before .before .before .before .before .args .image)) (now (c .before .before .before .before .before .before .before .before .before .before .before .before .before .before .before .before .before .before .before .before .args .memory)) m (c .before .before .before .before .before .before .before .before .before .before .before .before .before .before .before .before .before .before .before .before .args .budget)) (load-machine _ _ (c .before .before .before .before .before .before .before .before .before .before .before .before .before .before .before .load .ensures .0) (admitted-loaded _ _ (c .before .before .before .before .before .before .before .before .before .before .before .before .before .before .before .load .ensures .0) _ _ _ (c .before .before .before .before .before .before .before .before .before .before .before .before .before .admitted .ensures) (c .before .before .before .before .before .before .before .before .before .before .before .before .if1 .left)))) (c .before .before .before .save .ensures)) ∙ rw (number-is _ _ _ (c .before .before .before .before .before .before .before .before .run .ensures ∙ ap (λ (m : Machine). runOf (pinsOf (c .before .before .before .before .before .before .before .before .before .before .before .before .before .before .before .before .before .before .before .before .args .pins0) (c .before .before .before .before .before .before .before .before .before .before .before .before .before .before .before .before .before .before .before .before .args .pins1) (c .before .before .before .before .before .before .before .before .before .before .before .before .before .before .before .before .before .before .before .before .args .pins2) (c .before .before .before .before .before .before .before .before .before .before .before .before .before .before .before .before .before .before .before .before .args .pins3)) (now (c .before .before .before .before .before .before .before .before .before .before .before .before .before .before .before .before .before .before .before .before .args .image)) (now (c .before .before .before .before .before .before .before .before .before .before .before .before .before .before .before .before .before .before .before .before .args .memory)) m (c .before .before .before .before .before .before .before .before .before .before .before .before .before .before .before .before .before .before .before .before .args .budget)) (load-machine _ _ (c .before .before .before .before .before .before .before .before .before .before .before .before .before .before .before .load .ensures .0) (admitted-loaded _ _ (c .before .before .before .before .before .before .before .before .before .before .before .before .before .before .before .load .ensures .0) _ _ _ (c .before .before .before .before .before .before .before .before .before .before .before .before .before .admitted .ensures) (c .before .before .before .before .before .before .before .before .before .before .before .before .if1 .left))))) (is-done _ _ _ (admitted-next _ _ (c .before .before .before .before .before .before .before .before .before .before .before .before .before .before .before .load .ensures .0) _ _ _ (c .before .before .before .before .before .before .before .before .before .before .before .before .before .admitted .ensures) _ (c .before .before .before .before .before .before .before .before .before .before .before .before .if1 .left) ∙ within))
+returns-3 c = let within : budgetRefusal (c .before .before .before .before .before .before .before .before .before .before .before .before .before .before .before .before .before .before .before .before .args .budget) ≡ 0 = rw (le-ltb 1000000 (c .before .before .before .before .before .before .before .before .before .before .before .before .before .before .before .before .before .before .before .before .args .budget) (c .before .before .before .before .before .before .before .before .before .before .before .if2 .left)) in ap (λ (x : Lent). answer (c .before .before .before .before .before .before .before .before .run .result .refusal) x) (left-is _ _ _ _ (c .before .before .before .before .before .before .before .before .run .ensures ∙ ap (λ (m : Machine). runOf (pinsGiven (c .before .before .before .before .before .before .before .before .before .before .before .before .before .before .before .before .before .before .before .before .args .pins0) (c .before .before .before .before .before .before .before .before .before .before .before .before .before .before .before .before .before .before .before .before .args .pins1) (c .before .before .before .before .before .before .before .before .before .before .before .before .before .before .before .before .before .before .before .before .args .pins2) (c .before .before .before .before .before .before .before .before .before .before .before .before .before .before .before .before .before .before .before .before .args .pins3)) (now (c .before .before .before .before .before .before .before .before .before .before .before .before .before .before .before .before .before .before .before .before .args .image)) (now (c .before .before .before .before .before .before .before .before .before .before .before .before .before .before .before .before .before .before .before .before .args .memory)) m (c .before .before .before .before .before .before .before .before .before .before .before .before .before .before .before .before .before .before .before .before .args .budget)) (load-machine _ _ (c .before .before .before .before .before .before .before .before .before .before .before .before .before .before .before .load .ensures .0) (admitted-loaded _ _ (c .before .before .before .before .before .before .before .before .before .before .before .before .before .before .before .load .ensures .0) _ _ _ (c .before .before .before .before .before .before .before .before .before .before .before .before .before .admitted .ensures) (c .before .before .before .before .before .before .before .before .before .before .before .before .if1 .left)))) (c .before .before .before .save .ensures)) ∙ rw (number-is _ _ _ (c .before .before .before .before .before .before .before .before .run .ensures ∙ ap (λ (m : Machine). runOf (pinsGiven (c .before .before .before .before .before .before .before .before .before .before .before .before .before .before .before .before .before .before .before .before .args .pins0) (c .before .before .before .before .before .before .before .before .before .before .before .before .before .before .before .before .before .before .before .before .args .pins1) (c .before .before .before .before .before .before .before .before .before .before .before .before .before .before .before .before .before .before .before .before .args .pins2) (c .before .before .before .before .before .before .before .before .before .before .before .before .before .before .before .before .before .before .before .before .args .pins3)) (now (c .before .before .before .before .before .before .before .before .before .before .before .before .before .before .before .before .before .before .before .before .args .image)) (now (c .before .before .before .before .before .before .before .before .before .before .before .before .before .before .before .before .before .before .before .before .args .memory)) m (c .before .before .before .before .before .before .before .before .before .before .before .before .before .before .before .before .before .before .before .before .args .budget)) (load-machine _ _ (c .before .before .before .before .before .before .before .before .before .before .before .before .before .before .before .load .ensures .0) (admitted-loaded _ _ (c .before .before .before .before .before .before .before .before .before .before .before .before .before .before .before .load .ensures .0) _ _ _ (c .before .before .before .before .before .before .before .before .before .before .before .before .before .admitted .ensures) (c .before .before .before .before .before .before .before .before .before .before .before .before .if1 .left))))) (is-done _ _ _ (admitted-next _ _ (c .before .before .before .before .before .before .before .before .before .before .before .before .before .before .before .load .ensures .0) _ _ _ (c .before .before .before .before .before .before .before .before .before .before .before .before .before .admitted .ensures) _ (c .before .before .before .before .before .before .before .before .before .before .before .before .if1 .left) ∙ within))
 
 pub z8-run-spec : {M : Type 1} → statement M
 z8-run-spec =

@@ -11,20 +11,20 @@ use Rattle.word.specs.Fields.{upper, lower}
 use Rattle.word.proofs.Computed.{agree3}
 use Rattle.alu.specs.declared.Adjusted.{Adjusted}
 use Rattle.alu.specs.declared.Adjusted.the-variants.{By, NoRow}
-use Rattle.alu.specs.Decimal.{added, byRows, afterAddition}
+use Rattle.alu.specs.Decimal.{adjustedBy, byRows, afterAddition}
 
 -- the code's comparisons, row by row
 chain : ℕ → ℕ → ℕ → Adjusted
 chain v c h =
-    pick (eqb c 0 && leb (upper v) 0x9 && eqb h 0 && leb (lower v) 0x9) (By (added v 0x00 0))
-    (pick (eqb c 0 && leb (upper v) 0x8 && eqb h 0 && leb 0xA (lower v)) (By (added v 0x06 0))
-    (pick (eqb c 0 && leb (upper v) 0x9 && eqb h 1 && leb (lower v) 0x3) (By (added v 0x06 0))
-    (pick (eqb c 0 && leb 0xA (upper v) && eqb h 0 && leb (lower v) 0x9) (By (added v 0x60 1))
-    (pick (eqb c 0 && leb 0x9 (upper v) && eqb h 0 && leb 0xA (lower v)) (By (added v 0x66 1))
-    (pick (eqb c 0 && leb 0xA (upper v) && eqb h 1 && leb (lower v) 0x3) (By (added v 0x66 1))
-    (pick (eqb c 1 && leb (upper v) 0x2 && eqb h 0 && leb (lower v) 0x9) (By (added v 0x60 1))
-    (pick (eqb c 1 && leb (upper v) 0x2 && eqb h 0 && leb 0xA (lower v)) (By (added v 0x66 1))
-    (pick (eqb c 1 && leb (upper v) 0x3 && eqb h 1 && leb (lower v) 0x3) (By (added v 0x66 1))
+    pick (eqb c 0 && leb (upper v) 0x9 && eqb h 0 && leb (lower v) 0x9) (By (adjustedBy v 0x00 0))
+    (pick (eqb c 0 && leb (upper v) 0x8 && eqb h 0 && leb 0xA (lower v)) (By (adjustedBy v 0x06 0))
+    (pick (eqb c 0 && leb (upper v) 0x9 && eqb h 1 && leb (lower v) 0x3) (By (adjustedBy v 0x06 0))
+    (pick (eqb c 0 && leb 0xA (upper v) && eqb h 0 && leb (lower v) 0x9) (By (adjustedBy v 0x60 1))
+    (pick (eqb c 0 && leb 0x9 (upper v) && eqb h 0 && leb 0xA (lower v)) (By (adjustedBy v 0x66 1))
+    (pick (eqb c 0 && leb 0xA (upper v) && eqb h 1 && leb (lower v) 0x3) (By (adjustedBy v 0x66 1))
+    (pick (eqb c 1 && leb (upper v) 0x2 && eqb h 0 && leb (lower v) 0x9) (By (adjustedBy v 0x60 1))
+    (pick (eqb c 1 && leb (upper v) 0x2 && eqb h 0 && leb 0xA (lower v)) (By (adjustedBy v 0x66 1))
+    (pick (eqb c 1 && leb (upper v) 0x3 && eqb h 1 && leb (lower v) 0x3) (By (adjustedBy v 0x66 1))
     NoRow))))))))
 
 -- they are the page's rows, at every byte, C and H

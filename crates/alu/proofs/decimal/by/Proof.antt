@@ -1,7 +1,7 @@
 use borrow.Author.Needs.{needs}
 use Rattle.alu.proofs.decimal.by.Statement.{statement}
 use Rattle.alu.proofs.decimal.by.Tie as tie
-use Rattle.alu.specs.Decimal.{added}
+use Rattle.alu.specs.Decimal.{adjustedBy}
 use Rattle.alu.specs.FlagByte.{packed}
 
 wrapping-add-u8-requires : tie.Need-wrapping-add-u8-requires
@@ -14,7 +14,7 @@ pack-requires : tie.Need-pack-requires
 pack-requires c κs = search needs
 
 returns : tie.Need-returns
-unfolding added packed
+unfolding adjustedBy packed
 returns c = rw (c .pack .ensures, c .before .one-if .ensures .0, c .before .before .wrapping-add-u8 .ensures)
 
 pub by-spec : {M : Type 1} → statement M

@@ -9,8 +9,8 @@ one-requires c κs = search needs
 read-requires : tie.Need-read-requires
 read-requires c κs = search needs
 
-is-inside-requires : tie.Need-is-inside-requires
-is-inside-requires c κs = search needs
+is-internal-requires : tie.Need-is-internal-requires
+is-internal-requires c κs = search needs
 
 push-cycles-requires : tie.Need-push-cycles-requires
 push-cycles-requires c κs = search needs
@@ -20,7 +20,7 @@ plan-requires c κs = search needs
 
 returns : tie.Need-returns
 unfolding pushDeed outcomeOf
-returns c = rw (c .plan .ensures, c .before .push-cycles .ensures, c .before .before .is-inside .ensures, c .before .before .before .read .ensures, c .before .before .before .before .one .ensures)
+returns c = rw (c .plan .ensures, c .before .push-cycles .ensures, c .before .before .is-internal .ensures, c .before .before .before .read .ensures, c .before .before .before .before .one .ensures)
 
 pub push-spec : {M : Type 1} → statement M
 push-spec =
@@ -28,7 +28,7 @@ push-spec =
     (tie.spec
     one-requires
     read-requires
-    is-inside-requires
+    is-internal-requires
     push-cycles-requires
     plan-requires
     returns)

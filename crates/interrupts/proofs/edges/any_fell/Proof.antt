@@ -1,9 +1,7 @@
 use borrow.Author.Needs.{needs}
 use Rattle.interrupts.proofs.edges.any_fell.Statement.{statement}
 use Rattle.interrupts.proofs.edges.any_fell.Tie as tie
-use Rattle.interrupts.proofs.edges.any_fell.Reads as reads
-use Rattle.interrupts.proofs.edges.any_fell.Lts as lts
-use Rattle.interrupts.specs.Edges.{anyFell}
+use Rattle.interrupts.specs.ForCode.{anyFell}
 use mathlib.Core.Path.{refl}
 
 sub-result : tie.Need-sub-result

@@ -1,12 +1,6 @@
 use borrow.Author.Needs.{needs}
 use Rattle.interrupts.proofs.edges.compare.Statement.{statement}
 use Rattle.interrupts.proofs.edges.compare.Tie as tie
-use Rattle.interrupts.proofs.edges.compare.Reads as reads
-use Rattle.interrupts.proofs.edges.compare.Lts as lts
-use Rattle.interrupts.proofs.edges.any_fell.Reads as any-fell-reads
-use Rattle.interrupts.proofs.edges.moved.Reads as moved-reads
-use Rattle.machine.proofs.at_last3.Reads as at-last3-reads
-use Rattle.machine.proofs.clock.move_to.Reads as move-to-reads
 use Rattle.interrupts.specs.Edges.{comparedOf}
 use Rattle.interrupts.proofs.Steady.{steady}
 use Rattle.machine.specs.State.{whole, withLast3}

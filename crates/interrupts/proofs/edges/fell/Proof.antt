@@ -1,9 +1,6 @@
 use borrow.Author.Needs.{needs}
 use Rattle.interrupts.proofs.edges.fell.Statement.{statement}
 use Rattle.interrupts.proofs.edges.fell.Tie as tie
-use Rattle.interrupts.proofs.edges.fell.Reads as reads
-use Rattle.interrupts.proofs.edges.fell.Lts as lts
-use Rattle.word.proofs.is_set.Reads as is-set-reads
 use Rattle.interrupts.specs.Edges.{fell}
 
 is-set-requires : tie.Need-is-set-requires

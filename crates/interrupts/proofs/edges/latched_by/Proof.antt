@@ -1,10 +1,6 @@
 use borrow.Author.Needs.{needs}
 use Rattle.interrupts.proofs.edges.latched_by.Statement.{statement}
 use Rattle.interrupts.proofs.edges.latched_by.Tie as tie
-use Rattle.interrupts.proofs.edges.latched_by.Reads as reads
-use Rattle.interrupts.proofs.edges.latched_by.Lts as lts
-use Rattle.interrupts.proofs.edges.fell.Reads as fell-reads
-use Rattle.interrupts.proofs.edges.latched_if.Reads as latched-if-reads
 use Rattle.interrupts.specs.Edges.{latchedBy}
 
 fell-requires : tie.Need-fell-requires

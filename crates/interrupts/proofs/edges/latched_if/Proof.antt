@@ -1,9 +1,6 @@
 use borrow.Author.Needs.{needs}
 use Rattle.interrupts.proofs.edges.latched_if.Statement.{statement}
 use Rattle.interrupts.proofs.edges.latched_if.Tie as tie
-use Rattle.interrupts.proofs.edges.latched_if.Reads as reads
-use Rattle.interrupts.proofs.edges.latched_if.Lts as lts
-use Rattle.timers.proofs.requests.latch.Reads as latch-reads
 use Rattle.interrupts.specs.Edges.{latchedIf}
 
 latch-requires : tie.Need-latch-requires

@@ -1,13 +1,6 @@
 use borrow.Author.Needs.{needs}
 use Rattle.interrupts.proofs.edges.moved.Statement.{statement}
 use Rattle.interrupts.proofs.edges.moved.Tie as tie
-use Rattle.interrupts.proofs.edges.moved.Reads as reads
-use Rattle.interrupts.proofs.edges.moved.Lts as lts
-use Rattle.interrupts.proofs.edges.fell.Reads as fell-reads
-use Rattle.interrupts.proofs.edges.latched_by.Reads as latched-by-reads
-use Rattle.machine.proofs.clock.control_of.Reads as control-of-reads
-use Rattle.machine.proofs.clock.moving_of.Reads as moving-of-reads
-use Rattle.timers.proofs.clock.edge.Reads as edge-reads
 use Rattle.interrupts.specs.Edges.{movedByEdges}
 use Rattle.interrupts.proofs.Latches.{edges-latch-legal}
 

@@ -1,11 +1,6 @@
 use borrow.Author.Needs.{needs}
 use Rattle.interrupts.proofs.edges.requests.Statement.{statement}
 use Rattle.interrupts.proofs.edges.requests.Tie as tie
-use Rattle.interrupts.proofs.edges.requests.Reads as reads
-use Rattle.interrupts.proofs.edges.requests.Lts as lts
-use Rattle.interrupts.proofs.edges.any_fell.Reads as any-fell-reads
-use Rattle.interrupts.proofs.edges.moved.Reads as moved-reads
-use Rattle.machine.proofs.registers.held.Reads as held-reads
 use Rattle.interrupts.specs.Edges.{Comparison}
 use Rattle.interrupts.proofs.Steady.{steady, requests-seen}
 use Rattle.machine.specs.State.{whole, held, withLast3}

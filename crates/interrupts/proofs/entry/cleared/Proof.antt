@@ -1,8 +1,6 @@
 use borrow.Author.Needs.{needs}
 use Rattle.interrupts.proofs.entry.cleared.Statement.{statement}
 use Rattle.interrupts.proofs.entry.cleared.Tie as tie
-use Rattle.interrupts.proofs.entry.cleared.Reads as reads
-use Rattle.interrupts.proofs.entry.cleared.Lts as lts
 use Rattle.interrupts.specs.Entry.{cleared}
 use mathlib.Core.Path.{_≡_, refl}
 use Prim.Native.Nat.{_*_, _%_, _^_}

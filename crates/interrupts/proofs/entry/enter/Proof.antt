@@ -1,19 +1,6 @@
 use borrow.Author.Needs.{needs}
 use Rattle.interrupts.proofs.entry.enter.Statement.{statement}
 use Rattle.interrupts.proofs.entry.enter.Tie as tie
-use Rattle.interrupts.proofs.entry.enter.Reads as reads
-use Rattle.interrupts.proofs.entry.enter.Lts as lts
-use Rattle.deeds.proofs.modes.flags.Reads as flags-reads
-use Rattle.execute.proofs.doing.interrupts.Reads as interrupts-reads
-use Rattle.interrupts.proofs.entry.cleared.Reads as cleared-reads
-use Rattle.interrupts.proofs.entry.vector.Reads as vector-reads
-use Rattle.machine.proofs.at_pc.Reads as at-pc-reads
-use Rattle.machine.proofs.keeping.Reads as keeping-reads
-use Rattle.machine.proofs.registers.held.Reads as held-reads
-use Rattle.machine.proofs.registers.place.Reads as place-reads
-use Rattle.machine.proofs.stack.push.Reads as push-reads
-use Rattle.word.proofs.high_byte.Reads as high-byte-reads
-use Rattle.word.proofs.low_byte.Reads as low-byte-reads
 use Rattle.interrupts.specs.Entry.{cleared, enteredOf, acknowledged}
 use mathlib.Core.Path.{ap}
 use denote.Ref.{now}

@@ -1,10 +1,6 @@
 use borrow.Author.Needs.{needs}
 use Rattle.interrupts.proofs.entry.vector.Statement.{statement}
 use Rattle.interrupts.proofs.entry.vector.Tie as tie
-use Rattle.interrupts.proofs.entry.vector.Reads as reads
-use Rattle.interrupts.proofs.entry.vector.Lts as lts
-use Rattle.machine.proofs.memory.program.Reads as program-reads
-use Rattle.word.proofs.word.Reads as word-reads
 use Rattle.interrupts.specs.Entry.{vectorOf}
 
 mul-at : tie.Need-mul-at

@@ -1,10 +1,6 @@
 use borrow.Author.Needs.{needs}
 use Rattle.interrupts.proofs.grants.granted.Statement.{statement}
 use Rattle.interrupts.proofs.grants.granted.Tie as tie
-use Rattle.interrupts.proofs.grants.granted.Reads as reads
-use Rattle.interrupts.proofs.grants.granted.Lts as lts
-use Rattle.interrupts.proofs.grants.highest.Reads as highest-reads
-use Rattle.word.proofs.is_set.Reads as is-set-reads
 use Rattle.interrupts.specs.Grants.{granted}
 use Rattle.interrupts.proofs.Orders.{first-of-none}
 use borrow.Author.Tests.{not-true, not-false}

@@ -1,14 +1,7 @@
 use borrow.Author.Needs.{needs}
 use Rattle.interrupts.proofs.grants.highest.Statement.{statement}
 use Rattle.interrupts.proofs.grants.highest.Tie as tie
-use Rattle.interrupts.proofs.grants.highest.Reads as reads
-use Rattle.interrupts.proofs.grants.highest.Lts as lts
-use Rattle.interrupts.proofs.grants.group_order.Reads as group-order-reads
-use Rattle.interrupts.proofs.grants.of_group_a.Reads as of-group-a-reads
-use Rattle.interrupts.proofs.grants.of_group_b.Reads as of-group-b-reads
-use Rattle.interrupts.proofs.grants.of_group_c.Reads as of-group-c-reads
-use Rattle.interrupts.proofs.grants.of_three.Reads as of-three-reads
-use Rattle.interrupts.specs.Grants.{ordered, priorities, firstOf}
+use Rattle.interrupts.specs.Grants.{ordered, priorities, firstStanding}
 use Rattle.interrupts.proofs.Orders.{first-of-three, unused}
 use mathlib.Core.Path.{_≡_, sym}
 
@@ -67,7 +60,7 @@ unfolding priorities ordered
 returns-6 c = let order : c .before .before .group-order .result ≡ 6 = c .before .match .keys6 in rw (c .of-three6 .ensures, c .before .before .before .before .before .of-group-a .ensures, c .before .before .before .before .of-group-b .ensures, c .before .before .before .of-group-c .ensures, ← c .before .before .group-order .ensures .0, order) (sym (first-of-three _ _ _ _))
 
 returns-7 : tie.Need-returns-7
-unfolding priorities firstOf
+unfolding priorities firstStanding
 returns-7 c = rw (← c .before .group-order .ensures .0, unused _ _ _ _ (c .before .group-order .ensures .1) (c .match .rest))
 
 pub highest-spec : {M : Type 1} → statement M

@@ -1,9 +1,6 @@
 use borrow.Author.Needs.{needs}
 use Rattle.interrupts.proofs.grants.of_three.Statement.{statement}
 use Rattle.interrupts.proofs.grants.of_three.Tie as tie
-use Rattle.interrupts.proofs.grants.of_three.Reads as reads
-use Rattle.interrupts.proofs.grants.of_three.Lts as lts
-use Rattle.interrupts.proofs.grants.or_else.Reads as or-else-reads
 
 or-else-requires : tie.Need-or-else-requires
 or-else-requires c κs = search needs

@@ -1,9 +1,7 @@
 use borrow.Author.Needs.{needs}
 use Rattle.interrupts.proofs.grants.or_else.Statement.{statement}
 use Rattle.interrupts.proofs.grants.or_else.Tie as tie
-use Rattle.interrupts.proofs.grants.or_else.Reads as reads
-use Rattle.interrupts.proofs.grants.or_else.Lts as lts
-use Rattle.interrupts.specs.Grants.{orElse}
+use Rattle.interrupts.specs.ForCode.{orElse}
 
 enum-told : tie.Need-enum-told
 enum-told c = search needs

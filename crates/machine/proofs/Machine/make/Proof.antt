@@ -26,8 +26,8 @@ cast-fresh-2 c =
 fresh-requires : tie.Need-fresh-requires
 fresh-requires c κs = search needs
 
-standard-requires : tie.Need-standard-requires
-standard-requires c κs = search needs
+default-requires : tie.Need-default-requires
+default-requires c κs = search needs
 
 returns : tie.Need-returns
 unfolding madeOf
@@ -35,7 +35,7 @@ returns c = rw (c .fresh .ensures, ← c .before .before .before .is-kind .ensur
 
 returns-2 : tie.Need-returns-2
 unfolding madeOf
-returns-2 c = rw (c .standard .ensures, ← c .before .before .before .is-kind .ensures, ← c .before .before .is-cost .ensures, c .before .if1 .left)
+returns-2 c = rw (c .default .ensures, ← c .before .before .before .is-kind .ensures, ← c .before .before .is-cost .ensures, c .before .if1 .left)
 
 pub make-spec : {M : Type 1} → statement M
 make-spec =
@@ -46,6 +46,6 @@ make-spec =
     cast-fresh
     cast-fresh-2
     fresh-requires
-    standard-requires
+    default-requires
     returns
     returns-2)

@@ -1,13 +1,6 @@
 use borrow.Author.Needs.{needs}
 use Rattle.machine.proofs.addresses.write_pair.Statement.{statement}
 use Rattle.machine.proofs.addresses.write_pair.Tie as tie
-use Rattle.machine.proofs.addresses.write_pair.Reads as reads
-use Rattle.machine.proofs.addresses.write_pair.Lts as lts
-use Rattle.machine.proofs.addresses.even.Reads as even-reads
-use Rattle.machine.proofs.keeping.Reads as keeping-reads
-use Rattle.machine.proofs.registers.write_any.Reads as write-any-reads
-use Rattle.word.proofs.high_byte.Reads as high-byte-reads
-use Rattle.word.proofs.low_byte.Reads as low-byte-reads
 use denote.Ref.{now}
 use Rattle.machine.specs.State.{whole}
 use Rattle.machine.specs.Addresses.{writePair}

@@ -1,12 +1,6 @@
 use borrow.Author.Needs.{needs}
 use Rattle.machine.proofs.clock.long_span.Statement.{statement}
 use Rattle.machine.proofs.clock.long_span.Tie as tie
-use Rattle.machine.proofs.clock.long_span.Reads as reads
-use Rattle.machine.proofs.clock.long_span.Lts as lts
-use Rattle.machine.proofs.clock.control_of.Reads as control-of-reads
-use Rattle.machine.proofs.clock.move_to.Reads as move-to-reads
-use Rattle.machine.proofs.clock.moving_of.Reads as moving-of-reads
-use Rattle.timers.proofs.clock.span.Reads as span-reads
 use mathlib.Core.Path.{sym, _∙_}
 use denote.Ref.{now}
 use Rattle.machine.specs.State.{whole}

@@ -1,7 +1,7 @@
 use borrow.Author.Needs.{needs}
 use Rattle.machine.proofs.ports.port0_lines.Statement.{statement}
 use Rattle.machine.proofs.ports.port0_lines.Tie as tie
-use Rattle.machine.specs.Ports.{port0Lines}
+use Rattle.machine.specs.Ports.{port0Directions}
 
 bits-if-requires : tie.Need-bits-if-requires
 bits-if-requires c κs = search needs
@@ -16,7 +16,7 @@ bits-if-requires-4 : tie.Need-bits-if-requires-4
 bits-if-requires-4 c κs = search needs
 
 returns : tie.Need-returns
-unfolding port0Lines
+unfolding port0Directions
 returns c = rw (c .bits-if4 .ensures, c .before .bits-if3 .ensures, c .before .before .bits-if2 .ensures, c .before .before .before .bits-if .ensures)
 
 pub port0-lines-spec : {M : Type 1} → statement M

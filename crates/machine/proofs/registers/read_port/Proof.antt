@@ -12,8 +12,8 @@ held-requires-2 c κs = search needs
 held-requires-3 : tie.Need-held-requires-3
 held-requires-3 c κs = search needs
 
-lines-of-requires : tie.Need-lines-of-requires
-lines-of-requires c κs = search needs
+directions-of-requires : tie.Need-directions-of-requires
+directions-of-requires c κs = search needs
 
 pins-of-requires : tie.Need-pins-of-requires
 pins-of-requires c κs = search needs
@@ -23,7 +23,7 @@ reads-requires c κs = search needs
 
 returns : tie.Need-returns
 unfolding readPort
-returns c = rw (c .reads .ensures, c .before .pins-of .ensures, c .before .before .lines-of .ensures, c .before .before .before .held3 .ensures, c .before .before .before .before .held2 .ensures, c .before .before .before .before .before .held .ensures)
+returns c = rw (c .reads .ensures, c .before .pins-of .ensures, c .before .before .directions-of .ensures, c .before .before .before .held3 .ensures, c .before .before .before .before .held2 .ensures, c .before .before .before .before .before .held .ensures)
 
 pub read-port-spec : {M : Type 1} → statement M
 read-port-spec =
@@ -32,7 +32,7 @@ read-port-spec =
     held-requires
     held-requires-2
     held-requires-3
-    lines-of-requires
+    directions-of-requires
     pins-of-requires
     reads-requires
     returns)

@@ -13,8 +13,8 @@ held-requires-2 c κs = search needs
 held-requires-3 : tie.Need-held-requires-3
 held-requires-3 c κs = search needs
 
-lines-of-requires : tie.Need-lines-of-requires
-lines-of-requires c κs = search needs
+directions-of-requires : tie.Need-directions-of-requires
+directions-of-requires c κs = search needs
 
 stores-requires : tie.Need-stores-requires
 stores-requires c κs = search needs
@@ -24,7 +24,7 @@ place-requires c κs = search needs
 
 returns : tie.Need-returns
 unfolding writePort placed
-returns c = rw (c .place .ensures, c .before .before .stores .ensures, c .before .before .before .lines-of .ensures, c .before .before .before .before .held3 .ensures, c .before .before .before .before .before .before .held2 .ensures, c .before .before .before .before .before .before .before .before .held .ensures)
+returns c = rw (c .place .ensures, c .before .before .stores .ensures, c .before .before .before .directions-of .ensures, c .before .before .before .before .held3 .ensures, c .before .before .before .before .before .before .held2 .ensures, c .before .before .before .before .before .before .before .before .held .ensures)
 
 pub write-port-spec : {M : Type 1} → statement M
 write-port-spec =
@@ -33,7 +33,7 @@ write-port-spec =
     held-requires
     held-requires-2
     held-requires-3
-    lines-of-requires
+    directions-of-requires
     stores-requires
     place-requires
     returns)

@@ -3,8 +3,8 @@ use Rattle.machine.proofs.stack.byte_at.Statement.{statement}
 use Rattle.machine.proofs.stack.byte_at.Tie as tie
 use Rattle.machine.specs.Stack.{stackByte}
 
-is-inside-requires : tie.Need-is-inside-requires
-is-inside-requires c κs = search needs
+is-internal-requires : tie.Need-is-internal-requires
+is-internal-requires c κs = search needs
 
 held-requires : tie.Need-held-requires
 held-requires c κs = search needs
@@ -17,7 +17,7 @@ read-requires c κs = search needs
 
 returns : tie.Need-returns
 unfolding stackByte
-returns c = simp (c .read .ensures, c .before .wrapping-add-u8 .ensures, c .before .before .held .ensures, ← c .before .before .before .before .is-inside .ensures, c .before .before .before .if1 .taken)
+returns c = simp (c .read .ensures, c .before .wrapping-add-u8 .ensures, c .before .before .held .ensures, ← c .before .before .before .before .is-internal .ensures, c .before .before .before .if1 .taken)
 
 sp-of-requires : tie.Need-sp-of-requires
 sp-of-requires c κs = search needs
@@ -30,13 +30,13 @@ load-requires c κs = search needs
 
 returns-2 : tie.Need-returns-2
 unfolding stackByte
-returns-2 c = simp (c .load .ensures, c .before .plus .ensures, c .before .before .sp-of .ensures, ← c .before .before .before .before .is-inside .ensures, c .before .before .before .if1 .left)
+returns-2 c = simp (c .load .ensures, c .before .plus .ensures, c .before .before .sp-of .ensures, ← c .before .before .before .before .is-internal .ensures, c .before .before .before .if1 .left)
 
 pub byte-at-spec : {M : Type 1} → statement M
 byte-at-spec =
     tie.close
     (tie.spec
-    is-inside-requires
+    is-internal-requires
     held-requires
     wrapping-add-u8-requires
     read-requires

@@ -4,8 +4,8 @@ use Rattle.machine.proofs.stack.raise.Tie as tie
 use Rattle.machine.specs.Stack.{raised}
 use Rattle.machine.specs.State.{placed}
 
-is-inside-requires : tie.Need-is-inside-requires
-is-inside-requires c κs = search needs
+is-internal-requires : tie.Need-is-internal-requires
+is-internal-requires c κs = search needs
 
 held-requires : tie.Need-held-requires
 held-requires c κs = search needs
@@ -18,7 +18,7 @@ place-requires c κs = search needs
 
 returns : tie.Need-returns
 unfolding raised placed
-returns c = rw (c .place .ensures, c .before .before .wrapping-add-u8 .ensures, c .before .before .before .held .ensures, ← c .before .before .before .before .before .before .is-inside .ensures, c .before .before .before .before .before .if1 .taken)
+returns c = rw (c .place .ensures, c .before .before .wrapping-add-u8 .ensures, c .before .before .before .held .ensures, ← c .before .before .before .before .before .before .is-internal .ensures, c .before .before .before .before .before .if1 .taken)
 
 sp-of-requires : tie.Need-sp-of-requires
 sp-of-requires c κs = search needs
@@ -31,13 +31,13 @@ set-sp-requires c κs = search needs
 
 returns-2 : tie.Need-returns-2
 unfolding raised
-returns-2 c = rw (c .set-sp .ensures, c .before .before .plus .ensures, c .before .before .before .sp-of .ensures, ← c .before .before .before .before .before .before .is-inside .ensures, c .before .before .before .before .before .if1 .left)
+returns-2 c = rw (c .set-sp .ensures, c .before .before .plus .ensures, c .before .before .before .sp-of .ensures, ← c .before .before .before .before .before .before .is-internal .ensures, c .before .before .before .before .before .if1 .left)
 
 pub raise-spec : {M : Type 1} → statement M
 raise-spec =
     tie.close
     (tie.spec
-    is-inside-requires
+    is-internal-requires
     held-requires
     wrapping-add-u8-requires
     place-requires

@@ -1,11 +1,6 @@
 use borrow.Author.Needs.{needs}
 use Rattle.opcodes.proofs.instruction.decode.Statement.{statement}
 use Rattle.opcodes.proofs.instruction.decode.Tie as tie
-use Rattle.opcodes.proofs.instruction.decode.Reads as reads
-use Rattle.opcodes.proofs.instruction.decode.Lts as lts
-use Rattle.opcodes.proofs.instruction.length_of.Reads as length-of-reads
-use Rattle.opcodes.proofs.instruction.operand.Reads as operand-reads
-use Rattle.opcodes.proofs.map.is_defined.Reads as is-defined-reads
 use mathlib.Core.Path.{sym, _∙_}
 use Rattle.opcodes.proofs.Cells.{decoded-where, decoded-where-not}
 

@@ -1,10 +1,6 @@
 use borrow.Author.Needs.{needs}
 use Rattle.opcodes.proofs.instruction.encode.Statement.{statement}
 use Rattle.opcodes.proofs.instruction.encode.Tie as tie
-use Rattle.opcodes.proofs.instruction.encode.Reads as reads
-use Rattle.opcodes.proofs.instruction.encode.Lts as lts
-use Rattle.opcodes.proofs.instruction.length_of.Reads as length-of-reads
-use Rattle.opcodes.proofs.map.is_defined.Reads as is-defined-reads
 use mathlib.Core.Path.{_≡_}
 use mathlib.Core.Bool.{true, false, _&&_, _||_}
 use lib.Dec.{leb, eqb}

@@ -1,9 +1,6 @@
 use borrow.Author.Needs.{needs}
 use Rattle.opcodes.proofs.instruction.length_of.Statement.{statement}
 use Rattle.opcodes.proofs.instruction.length_of.Tie as tie
-use Rattle.opcodes.proofs.instruction.length_of.Reads as reads
-use Rattle.opcodes.proofs.instruction.length_of.Lts as lts
-use Rattle.word.proofs.lower.Reads as lower-reads
 use native.Mathlib.Omega.{arith}
 use mathlib.Core.Path.{_≡_, sym}
 use Prim.Native.Nat.{ℕ}

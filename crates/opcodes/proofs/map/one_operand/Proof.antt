@@ -4,7 +4,7 @@ use Rattle.opcodes.proofs.map.one_operand.Tie as tie
 use native.Mathlib.Omega.{arith}
 use mathlib.Core.Path.{_≡_, refl}
 use Rattle.opcodes.specs.Map.{entryOf, opcodeMap, IRR, Dec, Rlc, Inc, Com, Decw, Rl, Incw, Rrc, Sra, Rr, Swap}
-use Rattle.opcodes.specs.Columns.{oneMode}
+use Rattle.opcodes.specs.ForCode.{oneMode}
 use Rattle.opcodes.specs.declared.Kind.the-variants.{Da, Pop, Push, Clr, Jp, Srp}
 use Rattle.opcodes.specs.declared.Entry.the-variants.{Of}
 use Rattle.word.proofs.Computed.{last}

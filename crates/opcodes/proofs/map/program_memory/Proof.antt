@@ -4,7 +4,7 @@ use Rattle.opcodes.proofs.map.program_memory.Tie as tie
 use native.Mathlib.Omega.{arith}
 use mathlib.Core.Path.{refl}
 use Rattle.opcodes.specs.Map.{entryOf, opcodeMap}
-use Rattle.opcodes.specs.Columns.{wayOf}
+use Rattle.opcodes.specs.ForCode.{wayOf}
 use Rattle.opcodes.specs.declared.Kind.the-variants.{Ldc, Ldci}
 use Rattle.opcodes.specs.declared.Entry.the-variants.{Of}
 use Rattle.opcodes.proofs.Cells.{in-part}

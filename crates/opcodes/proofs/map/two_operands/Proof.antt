@@ -4,7 +4,7 @@ use Rattle.opcodes.proofs.map.two_operands.Tie as tie
 use native.Mathlib.Omega.{arith}
 use mathlib.Core.Path.{_≡_, refl}
 use Rattle.opcodes.specs.Map.{entryOf, opcodeMap, Add, Adc, Sub, Sbc, Or, And, Tcm, Tm}
-use Rattle.opcodes.specs.Columns.{twoModes}
+use Rattle.opcodes.specs.ForCode.{twoModes}
 use Rattle.opcodes.specs.declared.Entry.the-variants.{Of}
 use Rattle.word.proofs.Computed.{last}
 use Rattle.opcodes.proofs.Cells.{in-part}

@@ -1,7 +1,7 @@
 use borrow.Author.Needs.{needs}
 use Rattle.timers.proofs.clock.edge.Statement.{statement}
 use Rattle.timers.proofs.clock.edge.Tie as tie
-use Rattle.timers.specs.Clock.{edgeOf, both, begun}
+use Rattle.timers.specs.Clock.{edgeOf, tickBoth, begun}
 use Rattle.timers.specs.Control.{settingOf}
 use Rattle.timers.specs.declared.Source.the-variants.{Edges}
 use Rattle.timers.proofs.Legal.{setting-legal}
@@ -20,7 +20,7 @@ unfolding edgeOf
 returns c =
     let a = c .before .before .args in
     rw (c .tick-both .ensures, c .before .setting .ensures)
-    (iter-one (both Edges (settingOf (a .c))) (begun (a .m)))
+    (iter-one (tickBoth Edges (settingOf (a .c))) (begun (a .m)))
 
 pub edge-spec : {M : Type 1} → statement M
 edge-spec = tie.close (tie.spec setting-requires tick-both-requires returns)

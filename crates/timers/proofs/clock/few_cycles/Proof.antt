@@ -1,15 +1,8 @@
 use borrow.Author.Needs.{needs}
 use Rattle.timers.proofs.clock.few_cycles.Statement.{statement}
 use Rattle.timers.proofs.clock.few_cycles.Tie as tie
-use Rattle.timers.proofs.clock.few_cycles.Reads as reads
-use Rattle.timers.proofs.clock.few_cycles.Lts as lts
-use Rattle.timers.proofs.clock.as_before.Reads as as-before-reads
-use Rattle.timers.proofs.clock.divider_after.Reads as divider-after-reads
-use Rattle.timers.proofs.clock.go_round.Reads as go-round-reads
-use Rattle.timers.proofs.registers.moves_t1.Reads as moves-t1-reads
-use Rattle.timers.proofs.ticks.few_ticks.Reads as few-ticks-reads
 use mathlib.Core.Path.{_≡_}
-use mathlib.Core.Bool.{true, false, not}
+use mathlib.Core.Bool.{true, not}
 use borrow.Author.Tests.{not-true, not-false}
 use Rattle.timers.specs.Control.{settingOf, setupOf}
 use Rattle.timers.proofs.Cycles.{both-true, and-true, few0, few1, few-off, few-not0, few-not1, few-both}

@@ -1,12 +1,9 @@
 use borrow.Author.Needs.{needs}
 use Rattle.timers.proofs.clock.go_round.Statement.{statement}
 use Rattle.timers.proofs.clock.go_round.Tie as tie
-use Rattle.timers.proofs.clock.go_round.Reads as reads
-use Rattle.timers.proofs.clock.go_round.Lts as lts
 use mathlib.Core.Path.{_≡_, ap₂}
 use Prim.Native.Nat.{ℕ}
 use native.Mathlib.Omega.{arith}
-use Rattle.timers.specs.declared.clock.Round.{Round}
 
 add-sum : tie.Need-add-sum
 add-sum c = search needs

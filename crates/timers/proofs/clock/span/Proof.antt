@@ -1,21 +1,16 @@
 use borrow.Author.Needs.{needs}
 use Rattle.timers.proofs.clock.span.Statement.{statement}
 use Rattle.timers.proofs.clock.span.Tie as tie
-use Rattle.timers.proofs.clock.span.Reads as reads
-use Rattle.timers.proofs.clock.span.Lts as lts
-use Rattle.timers.proofs.clock.go_round.Reads as go-round-reads
-use Rattle.timers.proofs.clock.tick_both.Reads as tick-both-reads
-use Rattle.timers.proofs.registers.setting.Reads as setting-reads
 use Rattle.timers.specs.Clock.{LegalMoving}
 use mathlib.Core.Path.{refl, sym}
 use Prim.Native.Nat.{_+_, _%_}
 use native.Mathlib.Omega.{arith}
-use Rattle.timers.specs.Control.{settingOf, Bytes}
+use Rattle.timers.specs.Control.{settingOf, ControlBytes}
 use Rattle.timers.specs.declared.Source.the-variants.{Divider}
 use Rattle.timers.proofs.Legal.{setting-legal}
 use Rattle.timers.proofs.Cycles.{cycles-apart, ticks-apart}
 
-bytes : (s : tie.Start) → Bytes (s .args .c)
+bytes : (s : tie.Start) → ControlBytes (s .args .c)
 bytes s = search needs
 
 setting-requires : tie.Need-setting-requires

@@ -1,10 +1,6 @@
 use borrow.Author.Needs.{needs}
 use Rattle.timers.proofs.registers.moves_t1.Statement.{statement}
 use Rattle.timers.proofs.registers.moves_t1.Tie as tie
-use Rattle.timers.proofs.registers.moves_t1.Reads as reads
-use Rattle.timers.proofs.registers.moves_t1.Lts as lts
-use Rattle.timers.proofs.registers.divider_moves_t1.Reads as divider-moves-t1-reads
-use Rattle.word.proofs.is_set.Reads as is-set-reads
 use mathlib.Core.Path.{_≡_, sym, _∙_}
 use mathlib.Core.Bool.{true, false}
 use borrow.Author.Tests.{not-true, not-false}

@@ -1,13 +1,6 @@
 use borrow.Author.Needs.{needs}
 use Rattle.timers.proofs.ticks.advance.Statement.{statement}
 use Rattle.timers.proofs.ticks.advance.Tie as tie
-use Rattle.timers.proofs.ticks.advance.Reads as reads
-use Rattle.timers.proofs.ticks.advance.Lts as lts
-use Rattle.timers.proofs.ticks.down.Reads as down-reads
-use Rattle.timers.proofs.ticks.is_short.Reads as is-short-reads
-use Rattle.timers.proofs.ticks.shortly.Reads as shortly-reads
-use Rattle.timers.proofs.ticks.stopped.Reads as stopped-reads
-use Rattle.timers.proofs.ticks.ticks_in.Reads as ticks-in-reads
 use Rattle.timers.proofs.Division.{ticks-shortly, not-shortly, ticks-within, ticks-stops, ticks-repeats}
 use mathlib.Core.Path.{_≡_, sym, _∙_}
 use mathlib.Core.Bool.{true, false}

@@ -1,18 +1,13 @@
 use borrow.Author.Needs.{needs}
 use Rattle.timers.proofs.ticks.few_ticks.Statement.{statement}
 use Rattle.timers.proofs.ticks.few_ticks.Tie as tie
-use Rattle.timers.proofs.ticks.few_ticks.Reads as reads
-use Rattle.timers.proofs.ticks.few_ticks.Lts as lts
-use Rattle.timers.proofs.registers.or_highest.Reads as or-highest-reads
-use Rattle.timers.proofs.ticks.turned.Reads as turned-reads
-use mathlib.Core.Path.{_≡_, sym, _∙_}
+use mathlib.Core.Path.{_≡_, _∙_}
 use mathlib.Core.Bool.{true, false}
 use lib.Dec.{ltb}
 use native.Mathlib.Omega.{arith}
 use borrow.Author.Tests.{not-true, not-false, lt-ltb, le-ltb}
 use Prim.Native.Nat.{_/_, _<_, _≤_}
-use Rattle.timers.specs.Timer.{fewOf}
-use Rattle.timers.specs.Control.{orHighest}
+use Rattle.timers.specs.ForCode.{fewOf}
 use Rattle.timers.proofs.Legal.{highest-low, highest-high}
 
 returns : tie.Need-returns

@@ -1,10 +1,7 @@
 use borrow.Author.Needs.{needs}
 use Rattle.timers.proofs.ticks.is_short.Statement.{statement}
 use Rattle.timers.proofs.ticks.is_short.Tie as tie
-use Rattle.timers.proofs.ticks.is_short.Reads as reads
-use Rattle.timers.proofs.ticks.is_short.Lts as lts
-use Rattle.timers.proofs.ticks.moves.Reads as moves-reads
-use Rattle.timers.specs.Timer.{isShort}
+use Rattle.timers.specs.ForCode.{isShort}
 
 moves-requires : tie.Need-moves-requires
 moves-requires c κs = search needs

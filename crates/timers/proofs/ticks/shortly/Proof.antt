@@ -1,15 +1,12 @@
 use borrow.Author.Needs.{needs}
 use Rattle.timers.proofs.ticks.shortly.Statement.{statement}
 use Rattle.timers.proofs.ticks.shortly.Tie as tie
-use Rattle.timers.proofs.ticks.shortly.Reads as reads
-use Rattle.timers.proofs.ticks.shortly.Lts as lts
-use Rattle.timers.proofs.ticks.count_at.Reads as count-at-reads
-use Rattle.timers.proofs.ticks.moves.Reads as moves-reads
-use Rattle.timers.specs.Timer.{moves, shortly, isShort}
+use Rattle.timers.specs.Timer.{moves}
 use mathlib.Core.Path.{_≡_, sym, _∙_}
 use mathlib.Core.Bool.{true, false}
 use native.Mathlib.Omega.{arith}
 use borrow.Author.Tests.{not-true, not-false, ltb-true}
+use Rattle.timers.specs.ForCode.{shortly, isShort}
 
 moves-requires : tie.Need-moves-requires
 moves-requires c κs = search needs

@@ -1,17 +1,12 @@
 use borrow.Author.Needs.{needs}
 use Rattle.timers.proofs.ticks.turned.Statement.{statement}
 use Rattle.timers.proofs.ticks.turned.Tie as tie
-use Rattle.timers.proofs.ticks.turned.Reads as reads
-use Rattle.timers.proofs.ticks.turned.Lts as lts
-use Rattle.timers.proofs.ticks.down.Reads as down-reads
-use Rattle.timers.proofs.ticks.ticks_in.Reads as ticks-in-reads
-use mathlib.Core.Path.{_≡_, sym, _∙_}
+use mathlib.Core.Path.{_≡_, _∙_}
 use mathlib.Core.Bool.{true, false}
 use lib.Dec.{ltb}
-use native.Mathlib.Omega.{arith}
-use borrow.Author.Tests.{not-true, not-false, lt-ltb, le-ltb}
+use borrow.Author.Tests.{lt-ltb, le-ltb}
 use Prim.Native.Nat.{_-_, _*_, _<_, _≤_}
-use Rattle.timers.specs.Timer.{turnedOf}
+use Rattle.timers.specs.ForCode.{turnedOf}
 
 sub-rounds : tie.Need-sub-rounds
 sub-rounds c = search needs

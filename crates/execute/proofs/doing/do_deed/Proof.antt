@@ -1,6 +1,6 @@
 use borrow.Author.Needs.{needs}
-use Rattle.execute.proofs.doing.carry_out.Statement.{statement}
-use Rattle.execute.proofs.doing.carry_out.Tie as tie
+use Rattle.execute.proofs.doing.do_deed.Statement.{statement}
+use Rattle.execute.proofs.doing.do_deed.Tie as tie
 use Rattle.execute.specs.Doing.{doneOf}
 
 enum-told : tie.Need-enum-told
@@ -170,8 +170,8 @@ returns-14 : tie.Need-returns-14
 unfolding doneOf
 returns-14 c = rw (c .no-stores10 .ensures, c .before .interrupts .ensures, c .before .before .before .known-told13 .given .1, c .before .before .before .before .d13 .given .1)
 
-pub carry-out-spec : {M : Type 1} → statement M
-carry-out-spec =
+pub do-deed-spec : {M : Type 1} → statement M
+do-deed-spec =
     tie.close
     (tie.spec
     enum-told

@@ -1,6 +1,6 @@
 use borrow.Author.Needs.{needs}
-use Rattle.machine.proofs.stack.is_inside.Statement.{statement}
-use Rattle.machine.proofs.stack.is_inside.Tie as tie
+use Rattle.machine.proofs.stack.is_internal.Statement.{statement}
+use Rattle.machine.proofs.stack.is_internal.Tie as tie
 
 held-requires : tie.Need-held-requires
 held-requires c κs = search needs
@@ -11,5 +11,5 @@ is-set-requires c κs = search needs
 returns : tie.Need-returns
 returns c = rw (c .is-set .ensures, c .before .held .ensures)
 
-pub is-inside-spec : {M : Type 1} → statement M
-is-inside-spec = tie.close (tie.spec held-requires is-set-requires returns)
+pub is-internal-spec : {M : Type 1} → statement M
+is-internal-spec = tie.close (tie.spec held-requires is-set-requires returns)

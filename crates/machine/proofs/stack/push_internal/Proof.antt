@@ -1,7 +1,7 @@
 use borrow.Author.Needs.{needs}
-use Rattle.machine.proofs.stack.push_inside.Statement.{statement}
-use Rattle.machine.proofs.stack.push_inside.Tie as tie
-use Rattle.machine.specs.Stack.{pushedInside}
+use Rattle.machine.proofs.stack.push_internal.Statement.{statement}
+use Rattle.machine.proofs.stack.push_internal.Tie as tie
+use Rattle.machine.specs.Stack.{pushedInternal}
 use Rattle.machine.specs.State.{placed}
 
 count-of-requires : tie.Need-count-of-requires
@@ -29,11 +29,11 @@ write-from-requires : tie.Need-write-from-requires
 write-from-requires c κs = search needs
 
 returns : tie.Need-returns
-unfolding pushedInside placed
+unfolding pushedInternal placed
 returns c = rw (c .write-from .ensures, c .before .before .place .ensures, c .before .before .before .before .wrapping-add-u8 .ensures, c .before .before .before .before .before .held .ensures, c .before .before .before .before .before .before .before .count-of .ensures .0)
 
-pub push-inside-spec : {M : Type 1} → statement M
-push-inside-spec =
+pub push-internal-spec : {M : Type 1} → statement M
+push-internal-spec =
     tie.close
     (tie.spec
     count-of-requires

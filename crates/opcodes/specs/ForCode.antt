@@ -61,9 +61,9 @@ unaryCost unary.Swap = 8
 
 -- of PUSH, by the kind of stack (no opcode has PUSH r); of jumps, by whether they are taken
 abbrev pub pushCost : One → Bool → ℕ
-pushCost one.Work inside = 10
-pushCost one.Reg inside = pick inside 10 12
-pushCost one.Ind inside = pick inside 12 14
+pushCost one.Work internal = 10
+pushCost one.Reg internal = pick internal 10 12
+pushCost one.Ind internal = pick internal 12 14
 
 abbrev pub jumpCost : Bool → ℕ
 jumpCost taken = pick taken 12 10

@@ -1,7 +1,7 @@
 use borrow.Author.Needs.{needs}
-use Rattle.machine.proofs.stack.push_outside.Statement.{statement}
-use Rattle.machine.proofs.stack.push_outside.Tie as tie
-use Rattle.machine.specs.Stack.{pushedOutside}
+use Rattle.machine.proofs.stack.push_external.Statement.{statement}
+use Rattle.machine.proofs.stack.push_external.Tie as tie
+use Rattle.machine.specs.Stack.{pushedExternal}
 
 count-of-requires : tie.Need-count-of-requires
 count-of-requires c κs = search needs
@@ -25,11 +25,11 @@ set-sp-requires : tie.Need-set-sp-requires
 set-sp-requires c κs = search needs
 
 returns : tie.Need-returns
-unfolding pushedOutside
+unfolding pushedExternal
 returns c = rw (c .set-sp .ensures, c .before .before .plus .ensures, c .before .before .before .sp-of .ensures, c .before .before .before .before .before .count-of .ensures .0)
 
-pub push-outside-spec : {M : Type 1} → statement M
-push-outside-spec =
+pub push-external-spec : {M : Type 1} → statement M
+push-external-spec =
     tie.close
     (tie.spec
     count-of-requires

@@ -1,0 +1,44 @@
+-- For the contracts of the code alone, which returns in parts what the definitions say whole: nothing here has to be believed. Assumes nothing.
+use mathlib.Core.Bool.{Bool, false, not}
+use mathlib.Core.List.{List}
+use Prim.Native.Nat.{ℕ}
+use Rattle.opcodes.specs.Instruction.{defined}
+use Rattle.opcodes.specs.Map.{entryOf}
+use Rattle.opcodes.specs.declared.Entry.{Entry}
+use Rattle.machine.specs.Memory.{programByte}
+use Rattle.machine.specs.State.{whole}
+use Rattle.machine.specs.Clock.{Ran}
+use Rattle.machine.specs.declared.Machine.{Machine}
+use Rattle.machine.specs.declared.Pins.{Pins}
+use Rattle.interrupts.specs.Edges.{comparedOf}
+use Rattle.interrupts.specs.Grants.{grantOf}
+use Rattle.interrupts.specs.declared.grants.Grant.{Grant}
+use Rattle.step.specs.declared.Went.{Went}
+use Rattle.step.specs.Step.{Progress}
+use Rattle.step.specs.declared.Stepped.{Stepped}
+use Rattle.step.specs.declared.Passed.{Passed}
+use Rattle.interrupts.specs.declared.grants.Grant.the-variants as grant
+
+-- what a step comes to beside a lent file and data memory
+abbrev pub progressOf : List ℕ → List ℕ → Went → Progress
+progressOf file mem w =
+    record { refusal = w .refusal; cycles = w .cycles; ends0 = w .ends0; ends1 = w .ends1; machine = whole file (w .k); memory = mem }
+
+-- whether a step is refused, which is known before anything is stored
+abbrev pub refusedWhere : Grant → Entry → Bool
+refusedWhere grant.Nothing e = not (defined e)
+refusedWhere (grant.Request n) e = false
+
+unfoldable pub isRefusedOf : Pins → List ℕ → Machine → Bool
+isRefusedOf p image m = refusedWhere (grantOf (comparedOf m (p .port3) .machine)) (entryOf (programByte image (m .pc)))
+
+-- the same of a machine by value, beside a lent data memory
+abbrev pub steppedOf : List ℕ → Stepped → Progress
+steppedOf mem s =
+    record { refusal = s .refusal; cycles = s .cycles; ends0 = s .ends0; ends1 = s .ends1; machine = s .machine; memory = mem }
+
+abbrev pub byValue : List ℕ → Went → Stepped
+byValue file w = record { refusal = w .refusal; cycles = w .cycles; ends0 = w .ends0; ends1 = w .ends1; machine = whole file (w .k) }
+
+abbrev pub passedOf : Passed → Ran
+passedOf p = record { machine = p .machine; ends0 = p .ends0; ends1 = p .ends1 }
