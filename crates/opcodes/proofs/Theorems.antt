@@ -10,6 +10,7 @@ use native.Mathlib.Decide.{decLt}
 use lib.ListN.{getD, List·getD-eq-default}
 use Rattle.word.specs.Fields.{upper, lower}
 use lib.Dec.{T, eqb, leb, eqb→eq, leb→le}
+use borrow.Author.Tests.{eq-eqb}
 use Rattle.word.specs.Choose.{pick, oneIf}
 use Rattle.word.proofs.Computed.{below, at, and-left, and-right, agree}
 use Rattle.opcodes.specs.declared.Entry.{Entry}
@@ -97,20 +98,16 @@ cycles-by-kind {k} op first e = go (decLt op 256)
     go (yes h) = entry-cycles first op h ∙ ap (byEntry first) e
     go (no h) = absurd (blank-or (sym (beyond op (omega arith)) ∙ e))
 
--- a byte that is zero where the instruction hasn't it
-zero-else : (has : Bool) (b : ℕ) → has || eqb (pick has b 0) 0 ≡ true
-zero-else true b = refl
-zero-else false b = refl
-
-has-or-zero : (has : Bool) (b : ℕ) → T (has || eqb b 0) → pick has b 0 ≡ b
-has-or-zero true b t = refl
-has-or-zero false b t = sym (eqb→eq b 0 t)
+-- a byte that is zero where the instruction hasn't it is its own
+own-again : (has : Bool) (b : ℕ) → eqb (pick has (pick has b 0) 0) (pick has b 0) ≡ true
+own-again true b = eq-eqb b b refl
+own-again false b = refl
 
 -- what decodes to an instruction has an entry in the map
 encodes : (op b1 b2 : ℕ) {k : Kind} → entryOf op ≡ Of k
     → encodeOf op (operand 2 op b1) (operand 3 op b2) ≡ encoded.Bytes (lengthOf op) op (operand 2 op b1) (operand 3 op b2)
 unfolding encodeOf
-encodes op b1 b2 w = rw (w, zero-else (leb 2 (lengthOf op)) b1, zero-else (leb 3 (lengthOf op)) b2)
+encodes op b1 b2 w = rw (w, own-again (leb 2 (lengthOf op)) b1, own-again (leb 3 (lengthOf op)) b2)
 
 -- whatever three bytes decode to is encoded to these bytes, as far as they are the instruction's own, and zero after them
 pub encode-undoes-decode : (b0 b1 b2 : ℕ) {op a b n : ℕ} → decodeOf b0 b1 b2 ≡ decoded.Instruction op a b n
@@ -137,11 +134,11 @@ decodes (Of k) op a b d = refl
 own-bytes : (op a b : ℕ) → T (isInstruction op a b) → decodeOf op a b ≡ decoded.Instruction op a b (lengthOf op)
 unfolding decodeOf
 own-bytes op a b i =
-    let one = leb 2 (lengthOf op) || eqb a 0 in
-    let two = leb 3 (lengthOf op) || eqb b 0 in
+    let one = eqb (operand 2 op a) a in
+    let two = eqb (operand 3 op b) b in
     let fits = and-right (defined (entryOf op)) (one && two) i in
-    let first = has-or-zero (leb 2 (lengthOf op)) a (and-left one two fits) in
-    let second = has-or-zero (leb 3 (lengthOf op)) b (and-right one two fits) in
+    let first = eqb→eq (operand 2 op a) a (and-left one two fits) in
+    let second = eqb→eq (operand 3 op b) b (and-right one two fits) in
     rw (decodes (entryOf op) op a b (and-left (defined (entryOf op)) (one && two) i), first, second)
 
 -- and whatever an instruction is encoded to decodes to that instruction

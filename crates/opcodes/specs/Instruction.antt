@@ -1,6 +1,6 @@
 -- An instruction, from its bytes and to its bytes (01, "Instructions"). Assumes nothing.
 use Prim.Native.Nat.{ℕ}
-use mathlib.Core.Bool.{Bool, true, false, _&&_, _||_}
+use mathlib.Core.Bool.{Bool, true, false, _&&_}
 use mathlib.Core.List.{List, [], _∷_}
 use lib.Dec.{leb, eqb}
 use lib.ListN.{getD}
@@ -47,8 +47,9 @@ decodeOf op a b = decodedAs (entryOf op) op a b
 
 -- "An instruction is an opcode and its operand bytes, those it hasn't being zero"
 abbrev pub isInstruction : ℕ → ℕ → ℕ → Bool
-isInstruction op a b = defined (entryOf op) && ((leb 2 (lengthOf op) || eqb a 0) && (leb 3 (lengthOf op) || eqb b 0))
+isInstruction op first second = defined (entryOf op) && (eqb (operand 2 op first) first && eqb (operand 3 op second) second)
 
 -- "Encoding gives the length and three bytes, unused ones zero"; anything else to encode is 8
 unfoldable pub encodeOf : ℕ → ℕ → ℕ → Encoded
-encodeOf op a b = pick (isInstruction op a b) (encoded.Bytes (lengthOf op) op a b) (encoded.Refused noInstruction)
+encodeOf op first second =
+    pick (isInstruction op first second) (encoded.Bytes (lengthOf op) op first second) (encoded.Refused noInstruction)

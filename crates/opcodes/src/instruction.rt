@@ -48,13 +48,15 @@ pub fn decode(op: u8, a: u8, b: u8) -> Decoded
 }
 
 // An instruction's bytes.
-pub fn encode(op: u8, a: u8, b: u8) -> Encoded
-    ensures { λ r. ⌜ r ≡ encodeOf op a b ⌝ }
+pub fn encode(op: u8, first: u8, second: u8) -> Encoded
+    ensures { λ r. ⌜ r ≡ encodeOf op first second ⌝ }
 {
     let defined = crate::map::is_defined(op);
     let n = length_of(op);
-    if defined & (((2 <= n) | (a == 0)) & ((3 <= n) | (b == 0))) {
-        Encoded::Bytes(n, op, a, b)
+    let own_first = operand(2, n, first);
+    let own_second = operand(3, n, second);
+    if defined & ((own_first == first) & (own_second == second)) {
+        Encoded::Bytes(n, op, first, second)
     } else {
         Encoded::Refused(NO_INSTRUCTION)
     }
