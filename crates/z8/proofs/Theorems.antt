@@ -1,9 +1,11 @@
 -- What the order asks of the calls beyond their contracts. Assumes nothing.
 use mathlib.Core.Path.{_≡_, _∙_, refl, sym, ap}
+use mathlib.Core.Bool.{true}
 use mathlib.Core.List.{List, [], _∷_}
 use Prim.Native.Nat.{ℕ, _<_}
-use lib.Dec.{eqb}
-use borrow.Author.Tests.{eqb-false}
+use lib.Dec.{eqb, ltb}
+use lib.ListN.{length}
+use borrow.Author.Tests.{eqb-false, lt-ltb}
 use Rattle.word.specs.Choose.{pick}
 use Rattle.word.proofs.Computed.{by-test}
 use Rattle.machine.specs.Clock.{spanOf}
@@ -54,6 +56,19 @@ run-decided p image budget given = one-answer (runCallOf p image budget given)
 
 pub span-decided : (n : ℕ) (given : LentSpan) → Decided (spanCallOf n given)
 span-decided n given = one-answer (spanCallOf n given)
+
+-- ---- "tested in the order 7, 6, 1, 2 [..]": of a legal machine, an image too long is 1, whatever the data memory's length.
+module _ (p : Pins) (image : List ℕ) (given : Lent) (legal : refusalOf (given .saved) ≡ 0) (long : 65536 < length image) where
+  over : ltb 65536 (length image) ≡ true
+  over = lt-ltb 65536 (length image) long
+
+  pub step-image-first : stepCallOf p image given ≡ answer 1 given
+  unfolding stepCallOf
+  step-image-first = rw (legal, over)
+
+  pub run-image-first : (budget : ℕ) → runCallOf p image budget given ≡ answer 1 given
+  unfolding runCallOf
+  run-image-first budget = rw (legal, over)
 
 -- ---- "number alone, nothing changed"
 untouched : {A : Type 0} (f : ℕ) (given done : A) → (unlessRefused f given done .number ≡ 0 → ⊥) → unlessRefused f given done .left ≡ given
