@@ -1,0 +1,13 @@
+use borrow.Author.Needs.{needs}
+use mathlib.Core.Path.{refl}
+use Rattle.word.proofs.bit.Statement.{statement}
+use Rattle.word.proofs.bit.Tie as tie
+
+shr-result : tie.Need-shr-result
+shr-result c = search needs
+
+returns : tie.Need-returns
+returns c = refl
+
+pub bit-spec : {M : Type 1} → statement M
+bit-spec = tie.close (tie.spec shr-result returns)
