@@ -5,6 +5,9 @@
    made from any number of threads at once; one machine, or one data memory, belongs to one call at a time. An image is only read, so
    all machines may share one.
 
+   The serial port, port handshake, bus timing and T1's trigger modes are not there: register F0 reads FF, P3M changes nothing, and T_IN
+   modes 10 and 11 give T1 no ticks.
+
    Every function is proved to give, for every input, the one answer that its definition allows (docs/PROMISES.md). What is asked of
    you, because C can't be held to it:
 
@@ -60,7 +63,10 @@ extern "C" {
 
    It is legal, and no call answers Z8_REFUSED_MACHINE to it, exactly where each byte is within what is said beside it, places 80 to EF
    and F0 (hexadecimal) of the register file are zero, and so are bits 0 and 2 of TMR (F1), bits 6 and 7 of IRQ (FA) and bits 0 to 3 of
-   RP (FD). Every machine that a call writes is legal. */
+   RP (FD). Every machine that a call writes is legal.
+
+   Writing into these bytes is no register store. To start T0 by hand, say, set its start value (F4) and PRE0 (F5), its prescaler and counter
+   below, and its enable bit, bit 1 of TMR (F1). */
 
 #define Z8_SAVED_LEN 268u
 
@@ -107,9 +113,14 @@ uint32_t z8_encode(uint8_t opcode, uint8_t first, uint8_t second,
 
 /* ---- Time ----
 
-   data is the external data memory from address 0; the type says where it begins to answer (Z8_TYPE_Z8601). pins0 to pins3 are the levels at
-   the pins of ports 0 to 3. A program reads them where a port bit is an input; of pins3 the falling edges of bits 0 to 3 are interrupt
-   requests too, and all eight bits become the last pins (Z8_AT_PORT3). */
+   A cycle is one of the chip's internal clock, half the crystal's frequency: 6,000,000 a second at 12 MHz. The timers tick once in four.
+
+   image and data both begin at address 0. Program bytes past the image read FF, which is NOP, and stores to program memory are dropped.
+   Data addresses under 2,048 (Z8601) or 4,096 (Z8611), or past data_len, read FF and drop stores.
+
+   pins0 to pins3 are the levels at the pins of ports 0 to 3. A program reads them where a port bit is an input; of pins3 the falling edges of
+   bits 0 to 3 are interrupt requests too, and all eight bits become the last pins (Z8_AT_PORT3). Where nothing is connected, pass FF: after
+   making or a reset the last pins are all ones, so a first pins3 of 0 requests interrupts 0 to 3. */
 
 /* One step: the pins are compared with the last ones, an interrupt is granted or else one instruction executed, and the clock goes on by
    what that costs. Writes the machine, what was stored in data memory, the cycles (6 to 63), and how often T0 and T1 ended.

@@ -51,9 +51,9 @@ steady : (d : ℕ) → Steady (settingOf (shortest (kept 0x03)) .t0) (freshLoad 
 unfolding settingOf setupOf orHighest kept written timerWritten
 steady d = record { clocked = refl; enabled = refl; repeating = refl; prescaler-within = omega arith; counter-within = omega arith }
 
-ends-by-formula : (d n : ℕ) → d < 4 → endsIn d 0x05 0x01 n ≡ (n + d) / 4
+ends-of-the-quickest : (d n : ℕ) → d < 4 → endsIn d 0x05 0x01 n ≡ (n + d) / 4
 unfolding settingOf setupOf orHighest kept written timerWritten
-ends-by-formula d n h =
+ends-of-the-quickest d n h =
     let rests : LegalCounting resting = omega arith in
     let before : LegalMoving (restingAt d) = record { divider-high = h; counting0 = rests; counting1 = rests; irq-high = omega arith } in
     let legal : LegalMoving (freshLoad d 0x05 0x01) = written-legal (shortest 0x03) (restingAt d) (omega arith) before in
@@ -61,4 +61,4 @@ ends-by-formula d n h =
     ∙ ap (λ (x : ℕ). (n + x) / 4) (add-zero d)
 
 pub longest-span : (endsIn 0 0x05 0x01 4294967295 ≡ 1073741823) × (endsIn 1 0x05 0x01 4294967295 ≡ 1073741824)
-longest-span = (ends-by-formula 0 4294967295 (omega arith), ends-by-formula 1 4294967295 (omega arith))
+longest-span = (ends-of-the-quickest 0 4294967295 (omega arith), ends-of-the-quickest 1 4294967295 (omega arith))
