@@ -20,7 +20,7 @@ use Rattle.machine.specs.declared.Stores.the-variants.{Nothing, At}
 abbrev pub isInternal : Machine → Bool
 isInternal m = isSet 2 (held m P01M)
 
--- the stack pointer: SPL alone inside; outside the pair, SPH high
+-- the stack pointer: SPL alone internally; externally the pair, SPH high
 abbrev pub spl : Machine → ℕ
 spl m = held m SPL
 
@@ -40,7 +40,7 @@ abbrev pub writtenFrom : Machine → ℕ → List ℕ → Machine
 writtenFrom m a [] = m
 writtenFrom m a (v ∷ vs) = writtenFrom (writeReg m a v) ((a + 1) % 256) vs
 
--- bytes pushed, the lowest first. "SP is written first, then bytes upward in address order." Inside "SPL alone counts modulo 256 and R254
+-- bytes pushed, the lowest first. "SP is written first, then bytes upward in address order." Internally "SPL alone counts modulo 256 and R254
 -- stays. External uses the pair modulo 65,536."
 unfoldable pub pushedInternal : Machine → Bytes → Stacked
 pushedInternal m b =

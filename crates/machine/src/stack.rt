@@ -1,4 +1,4 @@
-// The stack, inside the register file or outside in data memory.
+// The stack, internal in the register file or external in data memory.
 use crate::Bytes;
 use crate::Core;
 use crate::Pins;
@@ -17,7 +17,7 @@ pub struct Pushed {
     pub stores: Stores,
 }
 
-// Whether the stack is inside.
+// Whether the stack is internal.
 pub fn is_internal(regs: &[u8; 256], k: Core) -> bool
     ensures { λ r. ⌜ r ≡ isInternal (whole (now (regs .entry)) k) ⌝ }
 {
