@@ -1,2 +1,3 @@
 pub mod Theorems
 pub mod Bytes
+pub mod Carries

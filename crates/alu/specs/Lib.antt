@@ -4,3 +4,4 @@ pub mod Logical
 pub mod Rotate
 pub mod Decimal
 pub mod Conditions
+pub mod ForCode

@@ -5,22 +5,37 @@ use crate::WordOutcome;
 ghost use mathlib.Core.Path.{_≡_};
 ghost use Prim.Native.Nat.{_<_};
 ghost use Rattle.alu.specs.FlagByte.{sign16};
+ghost use Rattle.alu.specs.ForCode.{halfCarry};
 ghost use Rattle.alu.specs.Arithmetic.{sumOverflow, differenceOverflow, additionOf, addOf, adcOf, differenceOf, subtractionOf, subOf, sbcOf, cpOf, counted, incOf, decOf, incwOf, decwOf};
 
 // V of a sum, by the signs of destination, source and result.
 fn sum_overflow(dst: u8, src: u8, r: u8) -> u8
+    requires { ⌜ dst < 2 ⌝ }
+    requires { ⌜ src < 2 ⌝ }
+    requires { ⌜ r < 2 ⌝ }
     ensures is { λ v. ⌜ v ≡ sumOverflow dst src r ⌝ }
     ensures bit { λ v. ⌜ v < 2 ⌝ }
 {
-    crate::one_if((dst == src) & (r != dst))
+    (dst ^ r) & (src ^ r)
 }
 
 // V of a difference, by the signs of destination, source and result.
 fn difference_overflow(dst: u8, src: u8, r: u8) -> u8
+    requires { ⌜ dst < 2 ⌝ }
+    requires { ⌜ src < 2 ⌝ }
+    requires { ⌜ r < 2 ⌝ }
     ensures is { λ v. ⌜ v ≡ differenceOverflow dst src r ⌝ }
     ensures bit { λ v. ⌜ v < 2 ⌝ }
 {
-    crate::one_if((dst != src) & (r == src))
+    (dst ^ src) & (dst ^ r)
+}
+
+// H of a sum or a difference r, by bit 4 of destination, source and result: it is the carry or the borrow that bit 4 took in.
+fn half_carry(a: u8, b: u8, r: u8) -> u8
+    ensures is { λ h. ⌜ h ≡ halfCarry a b r ⌝ }
+    ensures bit { λ h. ⌜ h < 2 ⌝ }
+{
+    word::bit(4, a) ^ word::bit(4, b) ^ word::bit(4, r)
 }
 
 // a + b + c, with its flags: ADD and ADC.
@@ -31,7 +46,7 @@ fn addition(a: u8, b: u8, c: u8) -> Outcome
     let wide = a as u16 + b as u16 + c as u16;
     let value = (wide % 256) as u8;
     let carry = (wide / 256) as u8;
-    let half = (a % 16 + b % 16 + c) / 16;
+    let half = half_carry(a, b, value);
     let z = crate::one_if(value == 0);
     let v = sum_overflow(a / 128, b / 128, value / 128);
     let set = crate::pack(carry, z, value / 128, v, 0, half);
@@ -69,7 +84,7 @@ fn subtraction(a: u8, b: u8, c: u8) -> Outcome
 {
     let value = difference(a, b, c);
     let borrow = crate::one_if((a as u16) < b as u16 + c as u16);
-    let half = crate::one_if(a % 16 < b % 16 + c);
+    let half = half_carry(a, b, value);
     let z = crate::one_if(value == 0);
     let v = difference_overflow(a / 128, b / 128, value / 128);
     let set = crate::pack(borrow, z, value / 128, v, 1, half);
@@ -120,12 +135,14 @@ fn counted(z: u8, s: u8, v: u8) -> Flags
     }
 }
 
+// V of one more, one less: only 80 (hexadecimal) is the sum of a positive byte and 1 with the sign changed, only 7F the difference of a
+// negative one; of words 8000 and 7FFF.
 pub fn inc(a: u8) -> Outcome
     ensures { λ r. ⌜ r ≡ incOf a ⌝ }
 {
     let value = std::num::wrapping_add_u8(a, 1);
     let z = crate::one_if(value == 0);
-    let v = sum_overflow(a / 128, 0, value / 128);
+    let v = crate::one_if(value == 128);
     let flags = counted(z, value / 128, v);
     Outcome { value, flags }
 }
@@ -135,7 +152,7 @@ pub fn dec(a: u8) -> Outcome
 {
     let value = std::num::wrapping_add_u8(a, 255);
     let z = crate::one_if(value == 0);
-    let v = difference_overflow(a / 128, 0, value / 128);
+    let v = crate::one_if(value == 127);
     let flags = counted(z, value / 128, v);
     Outcome { value, flags }
 }
@@ -153,7 +170,7 @@ pub fn incw(w: u16) -> WordOutcome
     let value = word::plus(w, 1);
     let z = crate::one_if(value == 0);
     let s = sign16(value);
-    let v = sum_overflow(sign16(w), 0, s);
+    let v = crate::one_if(value == 32768);
     let flags = counted(z, s, v);
     WordOutcome { value, flags }
 }
@@ -164,7 +181,7 @@ pub fn decw(w: u16) -> WordOutcome
     let value = word::plus(w, 65535);
     let z = crate::one_if(value == 0);
     let s = sign16(value);
-    let v = difference_overflow(sign16(w), 0, s);
+    let v = crate::one_if(value == 32767);
     let flags = counted(z, s, v);
     WordOutcome { value, flags }
 }

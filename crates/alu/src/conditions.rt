@@ -2,30 +2,35 @@
 ghost use mathlib.Core.Path.{_≡_};
 ghost use Prim.Native.Nat.{_<_};
 ghost use Rattle.alu.specs.Conditions.{holdsOf};
+ghost use Rattle.alu.specs.ForCode.{holdingOf};
 
-// The codes below 8.
-fn low(cc: u8, f: u8) -> bool
-    requires { ⌜ cc < 8 ⌝ }
-    ensures { λ r. ⌜ r ≡ holdsOf cc f ⌝ }
+// The codes that hold, a bit for each, by C, Z, S and V, the upper four bits of FLAGS.
+fn holding(czsv: u8) -> u16
+    requires { ⌜ czsv < 16 ⌝ }
+    ensures { λ r. ⌜ r ≡ holdingOf czsv ⌝ }
 {
-    let c = word::bit(7, f) == 1;
-    let z = word::bit(6, f) == 1;
-    let s = word::bit(5, f) == 1;
-    let v = word::bit(4, f) == 1;
-    match cc {
-        0 => false,
-        1 => s != v,
-        2 => z | (s != v),
-        3 => c | z,
-        4 => v,
-        5 => s,
-        6 => z,
-        _ => c,
+    match czsv {
+        0 => 0xFF00,
+        1 => 0xE916,
+        2 => 0xD926,
+        3 => 0xCF30,
+        4 => 0xB34C,
+        5 => 0xA15E,
+        6 => 0x916E,
+        7 => 0x837C,
+        8 => 0x7788,
+        9 => 0x619E,
+        10 => 0x51AE,
+        11 => 0x47B8,
+        12 => 0x33CC,
+        13 => 0x21DE,
+        14 => 0x11EE,
+        _ => 0x03FC,
     }
 }
 
-// Condition code cc, a number below 16, holds of the FLAGS byte f. A code from 8 is the opposite of that 8 below; 8 itself, the blank, is
-// the code of most jumps, and holds before a flag is looked at.
+// Condition code cc, a number below 16, holds of the FLAGS byte f. 8, the blank, is the code of most jumps, and holds before a flag is
+// looked at.
 pub fn holds(cc: u8, f: u8) -> bool
     requires { ⌜ cc < 16 ⌝ }
     ensures { λ r. ⌜ r ≡ holdsOf cc f ⌝ }
@@ -33,5 +38,5 @@ pub fn holds(cc: u8, f: u8) -> bool
     if cc == 8 {
         return true;
     }
-    if cc < 8 { low(cc, f) } else { !low(cc - 8, f) }
+    (holding(f / 16) >> cc) % 2 == 1
 }

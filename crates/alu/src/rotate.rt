@@ -2,8 +2,21 @@
 use crate::Flags;
 use crate::Outcome;
 ghost use mathlib.Core.Path.{_≡_};
+ghost use mathlib.Core.Bool.{not};
 ghost use Prim.Native.Nat.{_<_};
+ghost use lib.Dec.{eqb};
+ghost use Rattle.word.specs.Choose.{oneIf};
 ghost use Rattle.alu.specs.Rotate.{rotateFlags, rlOf, rlcOf, rrOf, rrcOf, sraOf, swapOf};
+
+// V of a rotation, by the signs of destination and result.
+fn rotate_overflow(dst: u8, r: u8) -> u8
+    requires { ⌜ dst < 2 ⌝ }
+    requires { ⌜ r < 2 ⌝ }
+    ensures is { λ v. ⌜ v ≡ oneIf (not (eqb dst r)) ⌝ }
+    ensures bit { λ v. ⌜ v < 2 ⌝ }
+{
+    dst ^ r
+}
 
 // After the rotation of a to r, with a bit rotated out.
 fn rotate_flags(out: u8, a: u8, r: u8) -> Flags
@@ -11,7 +24,7 @@ fn rotate_flags(out: u8, a: u8, r: u8) -> Flags
     ensures { λ e. ⌜ e ≡ rotateFlags out a r ⌝ }
 {
     let z = crate::one_if(r == 0);
-    let v = crate::one_if(a / 128 != r / 128);
+    let v = rotate_overflow(a / 128, r / 128);
     let set = crate::pack(out, z, r / 128, v, 0, 0);
     Flags {
         affected: Flags::CZSV,

@@ -1,4 +1,3 @@
 pub mod Modes
 pub mod Results
 pub mod Pages
-pub mod ForCode

@@ -1,12 +1,8 @@
-// What an instruction is to do and what it costs, with everything read that it needs and nothing written yet: "Operand addresses and source values are taken
-// before anything is written, with RP as it stood" (01). The room `execute` does it.
+// What an instruction is to do, with everything read that it needs and nothing written yet: "Operand addresses and source values are taken
+// before anything is written, with RP as it stood" (01). The definitions in specs/ speak of these types; no code makes or takes one but `Code`.
 use alu::Flags;
 use alu::Outcome;
 use alu::WordOutcome;
-
-pub mod modes;
-pub mod pages;
-mod results;
 
 // The opcode and the two bytes that follow it. Of these an instruction looks only at those that are its own.
 pub struct Code {
@@ -19,12 +15,6 @@ pub struct Code {
 pub struct Operands {
     pub dst: u8,
     pub src: u8,
-}
-
-// Two operands, and the cycles of an instruction that has such ones.
-pub struct Costed {
-    pub operands: Operands,
-    pub cycles: u8,
 }
 
 // A byte moved without a look at flags: to no place, to a register, or to data memory.
@@ -60,10 +50,4 @@ pub enum Deed {
     Loop(u8, u8, bool, u16),
     // bit 7 of IMR
     Interrupts(bool),
-}
-
-// What an instruction is to do, and its cycles.
-pub struct Planned {
-    pub deed: Deed,
-    pub cycles: u8,
 }

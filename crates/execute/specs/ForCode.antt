@@ -1,21 +1,33 @@
--- For the contracts of the code alone, which returns in parts what the definitions say whole: nothing here has to be believed. Assumes nothing.
+-- For the contracts of the code alone, which stores to data memory where the definitions say what is to be stored: nothing here has to be believed.
+-- Assumes nothing.
 use mathlib.Core.List.{List}
 use Prim.Native.Nat.{ℕ}
-use Rattle.machine.specs.State.{whole}
-use Rattle.machine.specs.declared.Core.{Core}
-use Rattle.machine.specs.declared.stack.Pushed.{Pushed}
-use Rattle.machine.specs.declared.Stores.the-variants.{Nothing}
-use Rattle.opcodes.specs.Instruction.{opcodeUndefined}
-use Rattle.execute.specs.declared.Executed.{Executed}
-use Rattle.execute.specs.Execute.{Execution}
+use lib.ListN.{getD}
+use Rattle.opcodes.specs.Map.{entryOf}
+use Rattle.opcodes.specs.Instruction.{lengths}
+use Rattle.machine.specs.State.{withPc}
+use Rattle.machine.specs.declared.Machine.{Machine}
+use Rattle.machine.specs.declared.Pins.{Pins}
+use Rattle.deeds.specs.declared.Code.{Code}
+use Rattle.execute.specs.Execute.{Execution, memoryAfter, executeAs}
 
--- a machine's rest, and nothing to be stored
-abbrev pub noStoresBeside : Core → Pushed
-noStoresBeside k = record { k = k; stores = Nothing }
+-- machine, data memory, cycles; a refused instruction has 0 of them
+pub record Performed : Type 0 where
+  pub machine : Machine
+  pub memory : List ℕ
+  pub cycles : ℕ
 
--- an execution beside a lent file, and a refused one
-abbrev pub executionOf : List ℕ → Executed → Execution
-executionOf file x = record { refusal = x .refusal; cycles = x .cycles; stores = x .stores; machine = whole file (x .k) }
+abbrev pub performed : Machine → List ℕ → ℕ → Performed
+performed m mem cycles = record { machine = m; memory = mem; cycles = cycles }
 
-abbrev pub refused : Core → Executed
-refused k = record { refusal = opcodeUndefined; cycles = 0; stores = Nothing; k = k }
+-- what is left of an execution from machine m on
+abbrev pub performedBy : Machine → List ℕ → Execution → Performed
+performedBy m mem x = performed (x .machine) (memoryAfter m mem x) (x .cycles)
+
+-- the length of the instructions in a column, D4 aside
+abbrev pub columnLength : ℕ → ℕ
+columnLength lo = getD lengths lo 0
+
+-- the instruction i at pc, with the machine n already at the next one
+unfoldable pub instructionAt : Pins → List ℕ → List ℕ → Machine → ℕ → Code → Performed
+instructionAt p image mem n pc i = performedBy n mem (executeAs p image mem (withPc n pc) (entryOf (i .op)) i)

@@ -1,118 +1,74 @@
-// Deeds done: what is written, and in which order.
+// What several instructions do alike: results stored and flags laid, in this order; calls; bit 7 of IMR; a refusal.
 use alu::Flags;
 use alu::Outcome;
 use alu::WordOutcome;
-use deeds::Deed;
-use deeds::Transfer;
+use lent::Rest;
 use machine::Bytes;
-use machine::Core;
 use machine::Pins;
-use machine::Stores;
-use machine::stack::Pushed;
 ghost use mathlib.Core.Path.{_≡_};
 ghost use Prim.Native.Nat.{_≤_};
-ghost use Rattle.machine.specs.State.{whole};
 ghost use Rattle.word.specs.Choose.{bitsIf};
-ghost use Rattle.machine.specs.Stack.{pushed};
-ghost use Rattle.execute.specs.Doing.{flagged, storedAt, wordStoredAt, transferred, countedUp, pairCountedUp, blockMoved, popped, returned, interruptsTo, interruptReturned, called, jumped, looped, doneOf};
-ghost use Rattle.machine.specs.ForCode.{stackedOf};
-ghost use Rattle.execute.specs.ForCode.{noStoresBeside};
+ghost use Rattle.machine.specs.State.{withPc};
+ghost use Rattle.lent.specs.View.{machineIn, left, stacked};
+ghost use Rattle.deeds.specs.Modes.{flagsOf};
+ghost use Rattle.execute.specs.Doing.{flagged, storedAt, wordStoredAt, countedUp, pairCountedUp, interruptsTo, called};
+
+// FLAGS, as they stand.
+pub fn flags(regs: &[u8; 256], rest: &Rest) -> u8
+    ensures { λ r. ⌜ r ≡ flagsOf (machineIn (now (regs .entry)) (now (rest .entry))) ⌝ }
+{
+    machine::file::held(regs, 0xFC)
+}
 
 // The affected flags, on the FLAGS byte that is in place by now.
-fn lay(regs: &mut [u8; 256], k: Core, e: Flags) -> Core
-    ensures { λ r. ⌜ whole (now (regs .exit)) r ≡ flagged (whole (now (regs .entry)) k) e ⌝ }
+pub fn lay(regs: &mut [u8; 256], rest: &Rest, e: Flags)
+    ensures { λ _. ⌜ machineIn (now (regs .exit)) (now (rest .entry)) ≡ flagged (machineIn (now (regs .entry)) (now (rest .entry))) e ⌝ }
 {
-    let f = deeds::modes::flags(regs, k);
-    let flags = alu::lay(f, e);
-    machine::registers::place(regs, 0xFC, flags);
-    k
+    let f = flags(regs, rest);
+    let laid = alu::lay(f, e);
+    machine::file::place(regs, 0xFC, laid);
 }
 
 // A byte stored, and then the flags.
-fn store(regs: &mut [u8; 256], k: Core, dst: u8, o: Outcome) -> Core
-    ensures { λ r. ⌜ whole (now (regs .exit)) r ≡ storedAt (whole (now (regs .entry)) k) dst o ⌝ }
+pub fn store(regs: &mut [u8; 256], rest: &mut Rest, dst: u8, o: Outcome)
+    ensures { λ _. ⌜ machineIn (now (regs .exit)) (now (rest .exit)) ≡ storedAt (machineIn (now (regs .entry)) (now (rest .entry))) dst o ⌝ }
 {
-    let flags = o.flags;
-    let stored = machine::registers::write(regs, k, dst, o.value);
-    lay(regs, stored, flags)
+    let e = o.flags;
+    lent::registers::write(regs, rest, dst, o.value);
+    lay(regs, rest, e);
 }
 
 // A word stored, and then the flags.
-fn store_word(regs: &mut [u8; 256], k: Core, dst: u8, o: WordOutcome) -> Core
-    ensures { λ r. ⌜ whole (now (regs .exit)) r ≡ wordStoredAt (whole (now (regs .entry)) k) dst o ⌝ }
+pub fn store_word(regs: &mut [u8; 256], rest: &mut Rest, dst: u8, o: WordOutcome)
+    ensures { λ _. ⌜ machineIn (now (regs .exit)) (now (rest .exit)) ≡ wordStoredAt (machineIn (now (regs .entry)) (now (rest .entry))) dst o ⌝ }
 {
-    let flags = o.flags;
-    let pair = machine::addresses::write_pair(regs, k, dst, o.value);
-    lay(regs, pair, flags)
+    let affected = o.flags;
+    lent::addresses::write_pair(regs, rest, dst, o.value);
+    lay(regs, rest, affected);
 }
 
-// Nothing to be stored in data memory.
-fn no_stores(k: Core) -> Pushed
-    ensures { λ r. ⌜ r ≡ noStoresBeside k ⌝ }
+// 1 added to what the register at r, and then to what the pair at rr reads by now.
+pub fn count_up(regs: &mut [u8; 256], rest: &mut Rest, pins: Pins, r: u8, rr: u8)
+    ensures { λ _. ⌜ machineIn (now (regs .exit)) (now (rest .exit)) ≡ pairCountedUp pins (countedUp pins (machineIn (now (regs .entry)) (now (rest .entry))) r) rr ⌝ }
 {
-    Pushed {
-        k,
-        stores: Stores::Nothing,
-    }
-}
-
-fn transfer(regs: &mut [u8; 256], k: Core, t: Transfer) -> Pushed
-    ensures { λ r. ⌜ stackedOf (now (regs .exit)) r ≡ transferred (whole (now (regs .entry)) k) t ⌝ }
-{
-    match t {
-        Transfer::Dropped => no_stores(k),
-        Transfer::ToRegister(a, v) => no_stores(machine::registers::write(regs, k, a, v)),
-        Transfer::ToMemory(a, v) => {
-            let b = Bytes::One(v);
-            Pushed {
-                k,
-                stores: Stores::At(a, b),
-            }
-        }
-    }
-}
-
-// 1 added to what the register at r reads by now.
-fn count_up(regs: &mut [u8; 256], k: Core, pins: Pins, r: u8) -> Core
-    ensures { λ x. ⌜ whole (now (regs .exit)) x ≡ countedUp pins (whole (now (regs .entry)) k) r ⌝ }
-{
-    let v = machine::registers::read(regs, k, pins, r);
+    let v = lent::registers::read(regs, rest, pins, r);
     let more = std::num::wrapping_add_u8(v, 1);
-    machine::registers::write(regs, k, r, more)
+    lent::registers::write(regs, rest, r, more);
+    let w = lent::addresses::read_pair(regs, rest, pins, rr);
+    let further = word::plus(w, 1);
+    lent::addresses::write_pair(regs, rest, rr, further);
 }
 
-// 1 added to what the pair at rr reads by now.
-fn count_pair_up(regs: &mut [u8; 256], k: Core, pins: Pins, rr: u8) -> Core
-    ensures { λ x. ⌜ whole (now (regs .exit)) x ≡ pairCountedUp pins (whole (now (regs .entry)) k) rr ⌝ }
+// CALL: the address of the next instruction pushed.
+pub fn call(regs: &mut [u8; 256], rest: &mut Rest, mem: &mut [u8], to: u16)
+    ensures { λ _. ⌜ left (machineIn (now (regs .exit)) (now (rest .exit))) (now (mem .exit)) ≡ stacked (machineIn (now (regs .entry)) (now (rest .entry)) .kind) (now (mem .entry)) (called (machineIn (now (regs .entry)) (now (rest .entry))) to) ⌝ }
 {
-    let w = machine::addresses::read_pair(regs, k, pins, rr);
-    let more = word::plus(w, 1);
-    machine::addresses::write_pair(regs, k, rr, more)
-}
-
-fn block(regs: &mut [u8; 256], k: Core, pins: Pins, t: Transfer, r: u8, rr: u8) -> Pushed
-    ensures { λ x. ⌜ stackedOf (now (regs .exit)) x ≡ blockMoved pins (whole (now (regs .entry)) k) t r rr ⌝ }
-{
-    let moved = transfer(regs, k, t);
-    let k1 = moved.k;
-    let stores = moved.stores;
-    let k2 = count_up(regs, k1, pins, r);
-    let k3 = count_pair_up(regs, k2, pins, rr);
-    Pushed { k: k3, stores }
-}
-
-fn pop(regs: &mut [u8; 256], k: Core, dst: u8, v: u8) -> Core
-    ensures { λ r. ⌜ whole (now (regs .exit)) r ≡ popped (whole (now (regs .entry)) k) dst v ⌝ }
-{
-    let raised = machine::stack::raise(regs, k, 1);
-    machine::registers::write(regs, raised, dst, v)
-}
-
-fn ret(regs: &mut [u8; 256], k: Core, to: u16) -> Core
-    ensures { λ r. ⌜ whole (now (regs .exit)) r ≡ returned (whole (now (regs .entry)) k) to ⌝ }
-{
-    let raised = machine::stack::raise(regs, k, 2);
-    machine::at_pc(raised, to)
+    let back = lent::pc(rest);
+    let hi = word::high_byte(back);
+    let lo = word::low_byte(back);
+    let b = Bytes::Two(hi, lo);
+    lent::stack::push(regs, rest, mem, b);
+    lent::set_pc(regs, rest, to);
 }
 
 // Bit 7, set or clear.
@@ -123,82 +79,22 @@ fn top_bit(on: bool) -> u8
 }
 
 // Bit 7 of IMR.
-pub fn interrupts(regs: &mut [u8; 256], k: Core, on: bool) -> Core
-    ensures { λ r. ⌜ whole (now (regs .exit)) r ≡ interruptsTo (whole (now (regs .entry)) k) on ⌝ }
+pub fn interrupts(regs: &mut [u8; 256], rest: &Rest, on: bool)
+    ensures { λ _. ⌜ machineIn (now (regs .exit)) (now (rest .entry)) ≡ interruptsTo (machineIn (now (regs .entry)) (now (rest .entry))) on ⌝ }
 {
-    let imr = machine::registers::held(regs, 0xFB);
+    let imr = machine::file::held(regs, 0xFB);
     let bit = top_bit(on);
-    machine::registers::place(regs, 0xFB, imr % 128 + bit);
-    k
+    machine::file::place(regs, 0xFB, imr % 128 + bit);
 }
 
-fn iret(regs: &mut [u8; 256], k: Core, flags: u8, to: u16) -> Core
-    ensures { λ r. ⌜ whole (now (regs .exit)) r ≡ interruptReturned (whole (now (regs .entry)) k) flags to ⌝ }
-{
-    let raised = machine::stack::raise(regs, k, 3);
-    machine::registers::place(regs, 0xFC, flags);
-    let back = machine::at_pc(raised, to);
-    interrupts(regs, back, true)
-}
+// The cycles of a refused instruction; every other has some.
+pub const REFUSED: u32 = 0;
 
-// What is returned is put together from parts, here and in `call`, so that the compiler keeps them in registers (see
-// `machine::registers::write`).
-fn push(regs: &mut [u8; 256], k: Core, v: u8) -> Pushed
-    ensures { λ r. ⌜ stackedOf (now (regs .exit)) r ≡ pushed (whole (now (regs .entry)) k) (Bytes.One v) ⌝ }
+// Refused: the machine is back at pc, and nothing else was changed.
+pub fn refused(regs: &[u8; 256], rest: &mut Rest, pc: u16) -> u32
+    ensures { λ r. ⌜ r ≡ 0 ⌝ }
+    ensures back { λ _. ⌜ machineIn (now (regs .entry)) (now (rest .exit)) ≡ withPc (machineIn (now (regs .entry)) (now (rest .entry))) pc ⌝ }
 {
-    let b = Bytes::One(v);
-    let p = machine::stack::push(regs, k, b);
-    let n = p.k;
-    let stores = p.stores;
-    let after = machine::keeping(k, n);
-    Pushed { k: after, stores }
-}
-
-fn call(regs: &mut [u8; 256], k: Core, to: u16) -> Pushed
-    ensures { λ r. ⌜ stackedOf (now (regs .exit)) r ≡ called (whole (now (regs .entry)) k) to ⌝ }
-{
-    let hi = word::high_byte(k.pc);
-    let lo = word::low_byte(k.pc);
-    let b = Bytes::Two(hi, lo);
-    let p = machine::stack::push(regs, k, b);
-    let n = p.k;
-    let stores = p.stores;
-    let after = machine::keeping(k, n);
-    let there = machine::at_pc(after, to);
-    Pushed { k: there, stores }
-}
-
-fn jump(regs: &[u8; 256], k: Core, taken: bool, to: u16) -> Core
-    ensures { λ r. ⌜ whole (now (regs .entry)) r ≡ jumped (whole (now (regs .entry)) k) taken to ⌝ }
-{
-    if taken { machine::at_pc(k, to) } else { k }
-}
-
-fn djnz(regs: &mut [u8; 256], k: Core, r: u8, v: u8, taken: bool, to: u16) -> Core
-    ensures { λ x. ⌜ whole (now (regs .exit)) x ≡ looped (whole (now (regs .entry)) k) r v taken to ⌝ }
-{
-    let stored = machine::registers::write(regs, k, r, v);
-    jump(regs, stored, taken, to)
-}
-
-// A deed done.
-pub fn do_deed(regs: &mut [u8; 256], k: Core, pins: Pins, d: Deed) -> Pushed
-    ensures { λ r. ⌜ stackedOf (now (regs .exit)) r ≡ doneOf pins (whole (now (regs .entry)) k) d ⌝ }
-{
-    match d {
-        Deed::Nothing => no_stores(k),
-        Deed::Move(t) => transfer(regs, k, t),
-        Deed::Store(dst, o) => no_stores(store(regs, k, dst, o)),
-        Deed::StoreWord(dst, o) => no_stores(store_word(regs, k, dst, o)),
-        Deed::Test(e) => no_stores(lay(regs, k, e)),
-        Deed::Block(t, r, rr) => block(regs, k, pins, t, r, rr),
-        Deed::Push(v) => push(regs, k, v),
-        Deed::Pop(dst, v) => no_stores(pop(regs, k, dst, v)),
-        Deed::Call(to) => call(regs, k, to),
-        Deed::Return(to) => no_stores(ret(regs, k, to)),
-        Deed::ReturnFromInterrupt(flags, to) => no_stores(iret(regs, k, flags, to)),
-        Deed::Jump(taken, to) => no_stores(jump(regs, k, taken, to)),
-        Deed::Loop(r, v, taken, to) => no_stores(djnz(regs, k, r, v, taken, to)),
-        Deed::Interrupts(on) => no_stores(interrupts(regs, k, on)),
-    }
+    lent::set_pc(regs, rest, pc);
+    REFUSED
 }

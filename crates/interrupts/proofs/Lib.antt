@@ -2,3 +2,4 @@ pub mod Latches
 pub mod Steady
 pub mod Orders
 pub mod Legal
+pub mod Entries

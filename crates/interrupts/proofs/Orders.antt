@@ -13,7 +13,7 @@ use Rattle.word.proofs.Computed.{NoneOf, and-left, and-right, at}
 use Rattle.interrupts.specs.declared.grants.Grant.{Grant}
 use Rattle.interrupts.specs.declared.grants.Grant.the-variants.{Nothing, Request}
 use Rattle.interrupts.specs.Grants.{groupA, groupB, groupC, ordered, priorities, firstStanding, granted}
-use Rattle.interrupts.specs.ForCode.{orElse}
+use Rattle.interrupts.specs.ForCode.{standingOf, orElse}
 
 module _ (standing : ℕ) where
   -- the first of two lists together is the first of the one, or else of the other
@@ -37,6 +37,15 @@ first-of-none [] = refl
 first-of-none (n ∷ ns) =
     let e : 0 / 2 ^ n % 2 ≡ 0 = rw (zero-div (2 ^ n)) in
     rw (e, first-of-none ns)
+
+-- so a grant is the first of those that stand
+pub granted-standing : (irq imr ipr : ℕ) → firstStanding (priorities ipr) (standingOf irq imr) ≡ granted irq imr ipr
+unfolding standingOf granted
+granted-standing irq imr ipr = go (isSet 7 imr)
+  where
+    go : (b : Bool) → firstStanding (priorities ipr) (pick b (bitAnd irq imr) 0) ≡ pick b (firstStanding (priorities ipr) (bitAnd irq imr)) Nothing
+    go true = refl
+    go false = first-of-none (priorities ipr)
 
 -- 000 and 111 order nothing
 pub unused : (n : ℕ) (a b c : List ℕ) → n < 8 → NoneOf n (6 ∷ 5 ∷ 4 ∷ 3 ∷ 2 ∷ 1 ∷ []) → ordered n a b c ≡ []

@@ -1,19 +1,14 @@
 // Falling edges of the Port 3 pins. `requests` looks ahead and stores nothing, `compare` stores.
-use machine::Core;
+use lent::Rest;
 use timers::Lines;
 use timers::Spanned;
 ghost use mathlib.Core.Path.{_≡_};
 ghost use Prim.Native.Nat.{_<_};
-ghost use Rattle.machine.specs.State.{whole, held};
+ghost use Rattle.machine.specs.State.{held};
 ghost use Rattle.machine.specs.Legal.{Legal};
+ghost use Rattle.lent.specs.View.{machineIn};
 ghost use Rattle.interrupts.specs.Edges.{fell, latchedIf, latchedBy, movedByEdges, comparedOf};
-ghost use Rattle.interrupts.specs.ForCode.{comparisonOf, anyFell};
-
-// The rest of a machine whose pins were compared, beside the file that was lent, and T1's ends by that.
-pub struct Compared {
-    pub k: Core,
-    pub ends1: u32,
-}
+ghost use Rattle.interrupts.specs.ForCode.{comparison, anyFell};
 
 // Whether any of P30 to P33 fell.
 fn any_fell(last: u8, given: u8) -> bool
@@ -58,17 +53,17 @@ fn latched_by(last: u8, given: u8, irq: u8) -> u8
     latched_if(p30, 3, irq2)
 }
 
-// What the edges move. It has two callers, so it stays out of line; each lends it a copy of the machine's rest, made where a pin fell, and
-// so the rest itself has no place in memory on the way where none did.
-fn moved(regs: &[u8; 256], k: Core, given: u8) -> Spanned
-    requires { ⌜ Legal (whole (now regs) k) ⌝ }
-    ensures { λ r. ⌜ r ≡ movedByEdges (whole (now (regs .entry)) k) given ⌝ }
+// What the edges move.
+fn moved(regs: &[u8; 256], rest: &Rest, given: u8) -> Spanned
+    requires { ⌜ Legal (machineIn (now regs) (now rest)) ⌝ }
+    ensures { λ r. ⌜ r ≡ movedByEdges (machineIn (now (regs .entry)) (now (rest .entry))) given ⌝ }
 {
-    let c = machine::clock::control_of(regs, k);
-    let m = machine::clock::moving_of(regs, k);
+    let last = lent::last3(rest);
+    let c = lent::clock::control_of(regs, rest);
+    let m = lent::clock::moving_of(regs, rest);
     let old = m.lines;
-    let irq = latched_by(k.last3, given, old.irq);
-    let p31 = fell(1, k.last3, given);
+    let irq = latched_by(last, given, old.irq);
+    let p31 = fell(1, last, given);
     let lines = Lines {
         irq,
         tout: old.tout,
@@ -87,36 +82,36 @@ fn moved(regs: &[u8; 256], k: Core, given: u8) -> Spanned
 }
 
 // IRQ as it stands when the pins have been compared.
-pub fn requests(regs: &[u8; 256], k: Core, given: u8) -> u8
-    requires { ⌜ Legal (whole (now regs) k) ⌝ }
-    ensures { λ r. ⌜ r ≡ held (comparedOf (whole (now (regs .entry)) k) given .machine) 0xFA ⌝ }
+pub fn requests(regs: &[u8; 256], rest: &Rest, given: u8) -> u8
+    requires { ⌜ Legal (machineIn (now regs) (now rest)) ⌝ }
+    ensures { λ r. ⌜ r ≡ held (comparedOf (machineIn (now (regs .entry)) (now (rest .entry))) given .machine) 0xFA ⌝ }
 {
-    let any = any_fell(k.last3, given);
+    let last = lent::last3(rest);
+    let any = any_fell(last, given);
     if !any {
-        return machine::registers::held(regs, 0xFA);
+        return machine::file::held(regs, 0xFA);
     }
-    let own = k;
-    let x = moved(regs, own, given);
+    let x = moved(regs, rest, given);
     let now = x.now;
     let lines = now.lines;
     lines.irq
 }
 
-// The pins compared.
-pub fn compare(regs: &mut [u8; 256], k: Core, given: u8) -> Compared
-    requires { ⌜ Legal (whole (now regs) k) ⌝ }
-    ensures { λ r. ⌜ comparisonOf (now (regs .exit)) r ≡ comparedOf (whole (now (regs .entry)) k) given ⌝ }
+// The pins compared, and T1's ends by that.
+pub fn compare(regs: &mut [u8; 256], rest: &mut Rest, given: u8) -> u32
+    requires { ⌜ Legal (machineIn (now regs) (now rest)) ⌝ }
+    ensures { λ r. ⌜ comparison (machineIn (now (regs .exit)) (now (rest .exit))) r ≡ comparedOf (machineIn (now (regs .entry)) (now (rest .entry))) given ⌝ }
 {
-    let any = any_fell(k.last3, given);
+    let last = lent::last3(rest);
+    let any = any_fell(last, given);
     if !any {
-        let seen = machine::at_last3(k, given);
-        return Compared { k: seen, ends1: 0 };
+        lent::set_last3(regs, rest, given);
+        return 0;
     }
-    let own = k;
-    let x = moved(regs, own, given);
+    let x = moved(regs, rest, given);
     let now = x.now;
     let ends1 = x.ends1;
-    let n = machine::clock::move_to(regs, k, now);
-    let after = machine::at_last3(n, given);
-    Compared { k: after, ends1 }
+    lent::clock::move_to(regs, rest, now);
+    lent::set_last3(regs, rest, given);
+    ends1
 }

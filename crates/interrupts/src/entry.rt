@@ -1,11 +1,9 @@
 // The grant of a request.
+use lent::Rest;
 use machine::Bytes;
-use machine::Core;
-use machine::stack::Pushed;
 ghost use mathlib.Core.Path.{_≡_};
 ghost use Prim.Native.Nat.{_<_};
-ghost use Rattle.machine.specs.State.{whole};
-ghost use Rattle.machine.specs.ForCode.{stackedOf};
+ghost use Rattle.lent.specs.View.{coreIn, machineIn, left, stacked};
 ghost use Rattle.interrupts.specs.Entry.{cleared, vectorOf, enteredOf};
 
 // IRQ with request n cleared.
@@ -27,25 +25,21 @@ fn vector(image: &[u8], n: u8) -> u16
     word::word(hi, lo)
 }
 
-// Request n entered: PC and FLAGS are pushed, then the request and IMR's bit 7 are cleared, also in bytes just pushed there. What the push
-// leaves is put together from parts (see `machine::registers::write`): so a run's type, entry cost and last pins are known to stay.
-pub fn enter(regs: &mut [u8; 256], k: Core, image: &[u8], n: u8) -> Pushed
+// Request n entered: PC and FLAGS are pushed, then the request and IMR's bit 7 are cleared, also in bytes just pushed there.
+pub fn enter(regs: &mut [u8; 256], rest: &mut Rest, mem: &mut [u8], image: &[u8], n: u8)
     requires { ⌜ n < 6 ⌝ }
-    ensures { λ r. ⌜ stackedOf (now (regs .exit)) r ≡ enteredOf (now (image .entry)) (whole (now (regs .entry)) k) n ⌝ }
+    ensures { λ _. ⌜ left (machineIn (now (regs .exit)) (now (rest .exit))) (now (mem .exit)) ≡ stacked (coreIn (now (rest .entry)) .kind) (now (mem .entry)) (enteredOf (now (image .entry)) (machineIn (now (regs .entry)) (now (rest .entry))) n) ⌝ }
 {
-    let flags = deeds::modes::flags(regs, k);
-    let hi = word::high_byte(k.pc);
-    let lo = word::low_byte(k.pc);
+    let pc = lent::pc(rest);
+    let flags = execute::doing::flags(regs, rest);
+    let hi = word::high_byte(pc);
+    let lo = word::low_byte(pc);
     let to = vector(image, n);
     let b = Bytes::Three(flags, hi, lo);
-    let p = machine::stack::push(regs, k, b);
-    let moved = p.k;
-    let stores = p.stores;
-    let pushed = machine::keeping(k, moved);
-    let irq = machine::registers::held(regs, 0xFA);
+    lent::stack::push(regs, rest, mem, b);
+    let irq = machine::file::held(regs, 0xFA);
     let fewer = cleared(n, irq);
-    machine::registers::place(regs, 0xFA, fewer);
-    let off = execute::doing::interrupts(regs, pushed, false);
-    let there = machine::at_pc(off, to);
-    Pushed { k: there, stores }
+    machine::file::place(regs, 0xFA, fewer);
+    execute::doing::interrupts(regs, rest, false);
+    lent::set_pc(regs, rest, to);
 }

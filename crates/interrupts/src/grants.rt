@@ -3,7 +3,7 @@ ghost use mathlib.Core.Path.{_≡_};
 ghost use mathlib.Core.List.{[], _∷_};
 ghost use Prim.Native.Nat.{_<_};
 ghost use Rattle.interrupts.specs.Grants.{groupOrder, groupA, groupB, groupC, priorities, firstStanding, granted};
-ghost use Rattle.interrupts.specs.ForCode.{orElse};
+ghost use Rattle.interrupts.specs.ForCode.{standingOf, orElse};
 
 pub enum Grant {
     Nothing,
@@ -88,8 +88,8 @@ fn group_order(ipr: u8) -> u8
     bit4 * 4 + bit3 * 2 + bit0
 }
 
-// The highest request by IPR that stands.
-fn highest(standing: u8, ipr: u8) -> Grant
+// The highest request by IPR of those that stand.
+pub fn highest(standing: u8, ipr: u8) -> Grant
     ensures { λ r. ⌜ r ≡ firstStanding (priorities ipr) standing ⌝ }
 {
     let a = of_group_a(standing, ipr);
@@ -107,29 +107,21 @@ fn highest(standing: u8, ipr: u8) -> Grant
     }
 }
 
+// The requests that stand: the mask bit is set too, and IMR's bit 7.
+pub fn standing(irq: u8, imr: u8) -> u8
+    ensures { λ r. ⌜ r ≡ standingOf irq imr ⌝ }
+{
+    let enabled = word::is_set(7, imr);
+    if enabled { irq & imr } else { 0 }
+}
+
 // What is granted, asked at each step. Mostly nothing stands, which is seen without asking IPR.
 pub fn granted(irq: u8, imr: u8, ipr: u8) -> Grant
     ensures { λ r. ⌜ r ≡ granted irq imr ipr ⌝ }
 {
-    let enabled = word::is_set(7, imr);
-    let standing = irq & imr;
-    if !enabled {
-        return Grant::Nothing;
-    }
+    let standing = standing(irq, imr);
     if standing == 0 {
         return Grant::Nothing;
     }
     highest(standing, ipr)
-}
-
-// The same, asked once in a run. With it `highest` has two callers and stays out of line; `granted` is then put in line where steps ask.
-pub fn granted_first(irq: u8, imr: u8, ipr: u8) -> Grant
-    ensures { λ r. ⌜ r ≡ granted irq imr ipr ⌝ }
-{
-    let enabled = word::is_set(7, imr);
-    if enabled {
-        highest(irq & imr, ipr)
-    } else {
-        Grant::Nothing
-    }
 }

@@ -2,7 +2,6 @@
 -- is the machine itself. So n cycles of a machine are n cycles of what they move, put back once. Assumes nothing.
 use mathlib.Core.Path.{_≡_, refl, ap, sym, _∙_}
 use mathlib.Core.Bool.{Bool, true, false}
-use mathlib.Core.List.{List}
 use Prim.Native.Nat.{ℕ, zero, suc, _≤_, _<_}
 use native.Mathlib.Omega.{arith}
 use lib.ListN.{length}
@@ -16,14 +15,11 @@ use Rattle.timers.specs.declared.Setting.{Setting}
 use Rattle.timers.specs.declared.Spanned.{Spanned}
 use Rattle.timers.proofs.Cycles.{counting, few-is}
 use Rattle.timers.proofs.Theorems.{cycles-within}
-use Rattle.machine.specs.State.{placedIn, coreOf, held, placed}
-use Rattle.machine.specs.Clock.{Ran, controlWith, controlOf, movingOf, enabling, countingAt, countsAt, movedTo, seen, shown, cycleOf, spanOf}
+use Rattle.machine.specs.State.{placedIn, held, placed}
+use Rattle.machine.specs.Clock.{Ran, controlWith, controlOf, movingOf, enabling, countsAt, movedTo, seen, shown, cycleOf, spanOf}
 use Rattle.machine.specs.declared.Machine.{Machine}
-use Rattle.machine.specs.declared.Core.{Core}
-use Rattle.machine.specs.declared.clock.Clocked.{Clocked}
 use Rattle.machine.proofs.Places.{place-long, held-same, held-other, place-own, places-again}
 use Rattle.timers.specs.ForCode.{fewCycles}
-use Rattle.machine.specs.ForCode.{ranOf}
 
 -- a rule of a byte and two truth values, computed at all of them
 pub every : {A : Type 0} (f g : Bool → Bool → ℕ → A)
@@ -129,10 +125,6 @@ unfolding movedTo placed countsAt
 counts-alone m x h e0 e1 e =
     rw (e0, e1, e, enabling-own _ h, place-own (m .regs) 0xF1, place-own (m .regs) 0xFA)
 
-own-rest : (file : List ℕ) (k : Core) (r : Clocked) → r .k .pc ≡ k .pc → r .k .last3 ≡ k .last3 → r .k .kind ≡ k .kind → r .k .cost ≡ k .cost
-    → ranOf file (record { k = countingAt k (r .k .divider) (r .k .t0) (r .k .t1) (r .k .tout); ends0 = r .ends0; ends1 = r .ends1 }) ≡ ranOf file r
-own-rest file k r p l i c = rw (← p, ← l, ← i, ← c)
-
 -- n cycles of a machine are n cycles of what they move, put back once
 module _ (m : Machine) (long : length (m .regs) ≡ 256) (tmr-byte : held m 0xF1 < 256) where
   abbrev set : Setting
@@ -162,15 +154,6 @@ module _ (m : Machine) (long : length (m .regs) ≡ 256) (tmr-byte : held m 0xF1
         few-is set n (movingOf m) ls lm f,
         counts-alone m (counting set (movingOf m) (fewCycles set n (movingOf m))) tmr-byte refl refl refl,
       )
-
-  -- cycles leave the rest as it was: so what they leave a machine with is its own rest with their counts
-  pub span-own : (n : ℕ) (file : List ℕ) (r : Clocked) → ranOf file r ≡ spanOf n m
-      → ranOf file (record { k = countingAt (coreOf m) (r .k .divider) (r .k .t0) (r .k .t1) (r .k .tout); ends0 = r .ends0; ends1 = r .ends1 }) ≡ spanOf n m
-  unfolding shown movedTo placed countsAt
-  span-own n file r e =
-      let put = e ∙ span-is n in
-      own-rest file (coreOf m) r (ap (λ (x : Ran). x .machine .pc) put) (ap (λ (x : Ran). x .machine .last3) put) (ap (λ (x : Ran). x .machine .kind) put) (ap (λ (x : Ran). x .machine .cost) put)
-      ∙ e
 
   -- each cycle ends a count at most once
   pub span-within : (n : ℕ) → (spanOf n m .ends0 ≤ n) × (spanOf n m .ends1 ≤ n)

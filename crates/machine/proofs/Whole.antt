@@ -1,5 +1,5 @@
--- The parts of a machine that is known: with a place or a program counter put in, and with what no store moves kept. Assumes nothing.
-use mathlib.Core.Path.{_≡_, _∙_, refl, ap}
+-- A place put into a machine that is known, and what no store moves. Assumes nothing.
+use mathlib.Core.Path.{_≡_, _∙_, refl}
 use mathlib.Core.List.{List, [], _∷_}
 use Prim.Native.Nat.{ℕ, _+_, _-_, _*_, _%_}
 use lib.Dec.{eqb, ltb}
@@ -9,7 +9,7 @@ use Rattle.word.specs.Words.{plus}
 use Rattle.word.proofs.Computed.{by-test}
 use Rattle.timers.specs.Clock.{written}
 use Rattle.timers.proofs.Iterate.{iter-keeps}
-use Rattle.machine.specs.State.{placedIn, whole, placed, atPc, atLast3, withLast3, withPc}
+use Rattle.machine.specs.State.{placedIn, whole, placed}
 use Rattle.machine.specs.Clock.{movingOf, countsAt, movedTo, writeTmr, Ran, shown, cycleOf, spanOf}
 use Rattle.machine.specs.Registers.{isHole, writePort, writeReg}
 use Rattle.machine.specs.Addresses.{evenOf, writePair}
@@ -18,20 +18,10 @@ use Rattle.machine.specs.Stack.{Stacked, isInternal, spl, spOf, spSet, w
 use Rattle.machine.specs.declared.Machine.{Machine}
 use Rattle.machine.specs.declared.Core.{Core}
 use Rattle.machine.specs.declared.Bytes.{Bytes}
-use Rattle.machine.specs.declared.stack.Pushed.{Pushed}
-use Rattle.machine.specs.ForCode.{keeping, stackedOf}
 
 pub placed-is : {file : List ℕ} {k : Core} {m : Machine} (a v : ℕ) → whole file k ≡ m → whole (placedIn file a v) k ≡ placed m a v
 unfolding placed
 placed-is a v e = rw (← e)
-
-pub pc-is : {file : List ℕ} {k : Core} {m : Machine} (pc : ℕ) → whole file k ≡ m → whole file (atPc k pc) ≡ withPc m pc
-unfolding withPc
-pc-is pc e = rw (← e)
-
-pub last3-is : {file : List ℕ} {k : Core} {m : Machine} (port3 : ℕ) → whole file k ≡ m → whole file (atLast3 k port3) ≡ withLast3 m port3
-unfolding withLast3
-last3-is port3 e = rw (← e)
 
 -- n has what m has where no store moves it
 pub record Keeps (m n : Machine) : Type 0 where
@@ -92,16 +82,6 @@ raise-keeps m n =
     by-test (Keeps m) (isInternal m)
     (λ t. place-keeps m 0xFF _)
     (λ t. keeps-on (place-keeps m 0xFE _) (place-keeps (placed m 0xFE (highByte (plus (spOf m) n))) 0xFF _))
-
--- so what is kept of k is nothing else than n
-pub kept-is : {file file₀ : List ℕ} {k n : Core} {o : Machine} → Keeps (whole file₀ k) o → whole file n ≡ o → whole file (keeping k n) ≡ o
-kept-is h e = rw (← h .pc-kept, ← h .divider-kept, ← h .last3-kept, ← h .kind-kept, ← h .cost-kept, ← e)
-
--- the same of bytes pushed, with what is to be stored in data memory
-pub push-is : {file : List ℕ} {r : Pushed} (file₀ : List ℕ) (k : Core) (b : Bytes) → stackedOf file r ≡ pushed (whole file₀ k) b
-    → stackedOf file (record { k = keeping k (r .k); stores = r .stores }) ≡ pushed (whole file₀ k) b
-push-is file₀ k b e =
-    rw (kept-is (push-keeps (whole file₀ k) b) (ap (λ (s : Stacked). s .machine) e), ap (λ (s : Stacked). s .stores) e)
 
 -- cycles keep the last pins
 pub span-last3 : (n : ℕ) (m : Machine) → spanOf n m .machine .last3 ≡ m .last3

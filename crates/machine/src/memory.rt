@@ -1,11 +1,10 @@
 // Program and data memory.
 use crate::Bytes;
 use crate::Machine;
-use crate::Stores;
 ghost use mathlib.Core.Path.{_≡_};
 ghost use Prim.Native.Nat.{_≤_};
 ghost use lib.ListN.{length};
-ghost use Rattle.machine.specs.Memory.{programByte, programThree, dataStart, dataByte, dataStored, listOf, storedFrom, storedIn};
+ghost use Rattle.machine.specs.Memory.{programByte, programThree, dataStart, dataByte, dataStored, listOf, storedFrom};
 ghost use Rattle.machine.specs.ForCode.{reachOf};
 
 // Three bytes of the program, in address order: as many as an instruction has at most.
@@ -78,7 +77,8 @@ pub fn load(kind: u8, mem: &[u8], a: u16) -> u8
     if i < mem.len() { mem[i] } else { 0xFF }
 }
 
-fn store_byte(kind: u8, mem: &mut [u8], a: u16, v: u8)
+// A byte stored in data memory.
+pub fn store_byte(kind: u8, mem: &mut [u8], a: u16, v: u8)
     ensures { λ _. ⌜ now (mem .exit) ≡ dataStored kind (now (mem .entry)) a v ⌝ }
 {
     let start = data_start(kind);
@@ -91,7 +91,8 @@ fn store_byte(kind: u8, mem: &mut [u8], a: u16, v: u8)
     }
 }
 
-fn store_bytes(kind: u8, mem: &mut [u8], a: u16, b: Bytes)
+// Bytes stored upward in address order. This and `store_byte` alone write to data memory.
+pub fn store_bytes(kind: u8, mem: &mut [u8], a: u16, b: Bytes)
     ensures { λ _. ⌜ now (mem .exit) ≡ storedFrom kind (now (mem .entry)) a (listOf b) ⌝ }
 {
     let next = word::plus(a, 1);
@@ -108,18 +109,6 @@ fn store_bytes(kind: u8, mem: &mut [u8], a: u16, b: Bytes)
             store_byte(kind, mem, a, x);
             store_byte(kind, mem, next, y);
             store_byte(kind, mem, last, z);
-        }
-    }
-}
-
-// What is to be stored in data memory, stored. Nothing else writes to it.
-pub fn store(kind: u8, mem: &mut [u8], s: Stores)
-    ensures { λ _. ⌜ now (mem .exit) ≡ storedIn kind (now (mem .entry)) s ⌝ }
-{
-    match s {
-        Stores::Nothing => {}
-        Stores::At(a, b) => {
-            store_bytes(kind, mem, a, b);
         }
     }
 }

@@ -2,7 +2,6 @@
 use crate::Machine;
 use timers::Timer;
 ghost use mathlib.Core.Path.{_≡_};
-ghost use mathlib.Core.Bool.{_&&_};
 ghost use Rattle.machine.specs.Start.{placedAll, resetPlaces, startedWith, resetOf, newOf, defaultOf, isKind, isCost, madeOf, fullTimer};
 
 // A new machine; or a refusal's number, and then the standard machine, as the answer has to hold one.
@@ -24,26 +23,26 @@ fn full_timer() -> Timer
 fn reset_places(regs: &mut [u8; 256])
     ensures { λ _. ⌜ now (regs .exit) ≡ placedAll (now (regs .entry)) resetPlaces ⌝ }
 {
-    crate::registers::place(regs, 0x00, 0);
-    crate::registers::place(regs, 0x01, 0);
-    crate::registers::place(regs, 0x02, 0);
-    crate::registers::place(regs, 0x03, 0);
-    crate::registers::place(regs, 0xF0, 0);
-    crate::registers::place(regs, 0xF1, 0);
-    crate::registers::place(regs, 0xF2, 0);
-    crate::registers::place(regs, 0xF3, 0);
-    crate::registers::place(regs, 0xF4, 0);
-    crate::registers::place(regs, 0xF5, 0);
-    crate::registers::place(regs, 0xF6, 0xFF);
-    crate::registers::place(regs, 0xF7, 0);
-    crate::registers::place(regs, 0xF8, 0x4D);
-    crate::registers::place(regs, 0xF9, 0);
-    crate::registers::place(regs, 0xFA, 0);
-    crate::registers::place(regs, 0xFB, 0);
-    crate::registers::place(regs, 0xFC, 0);
-    crate::registers::place(regs, 0xFD, 0);
-    crate::registers::place(regs, 0xFE, 0);
-    crate::registers::place(regs, 0xFF, 0);
+    crate::file::place(regs, 0x00, 0);
+    crate::file::place(regs, 0x01, 0);
+    crate::file::place(regs, 0x02, 0);
+    crate::file::place(regs, 0x03, 0);
+    crate::file::place(regs, 0xF0, 0);
+    crate::file::place(regs, 0xF1, 0);
+    crate::file::place(regs, 0xF2, 0);
+    crate::file::place(regs, 0xF3, 0);
+    crate::file::place(regs, 0xF4, 0);
+    crate::file::place(regs, 0xF5, 0);
+    crate::file::place(regs, 0xF6, 0xFF);
+    crate::file::place(regs, 0xF7, 0);
+    crate::file::place(regs, 0xF8, 0x4D);
+    crate::file::place(regs, 0xF9, 0);
+    crate::file::place(regs, 0xFA, 0);
+    crate::file::place(regs, 0xFB, 0);
+    crate::file::place(regs, 0xFC, 0);
+    crate::file::place(regs, 0xFD, 0);
+    crate::file::place(regs, 0xFE, 0);
+    crate::file::place(regs, 0xFF, 0);
 }
 
 // The machine as it starts, of a file whose R4 to R127 stay.

@@ -1,12 +1,12 @@
 -- A part of a map of 16 rows of 16 compared with what the code answers there, by computing both. Assumes nothing.
 use mathlib.Core.Path.{_≡_, refl, sym, subst}
-use mathlib.Core.Bool.{Bool, true, false, not}
+use mathlib.Core.Bool.{true, false, not}
 use mathlib.Core.List.{List}
 use Prim.Native.Nat.{ℕ, _+_, _-_, _*_, _≤_, _<_}
 use native.Mathlib.Omega.{arith}
 use lib.Dec.{T}
 use Rattle.word.specs.Fields.{upper, lower}
-use Rattle.word.proofs.Computed.{made, agree2, fails, NoneOf, else-passes}
+use Rattle.word.proofs.Computed.{made, agree2}
 use Rattle.opcodes.specs.declared.Entry.{Entry}
 use Rattle.opcodes.specs.declared.Entry.the-variants.{Blank, Of}
 use Rattle.opcodes.specs.declared.Decoded.the-variants as decoded
@@ -27,12 +27,7 @@ in-part f g i n j m op u l e =
     rw (a, b, w)
     at (agree2 (λ a b. f (i + a) (j + b)) (λ a b. g ((i + a) * 16 + (j + b))) n m e (upper op - i) (lower op - j) (omega arith) (omega arith))
 
--- a test passes in row hi at a column that is none of those where it fails
-pub else-in-row : (f : ℕ → Bool) (hi op : ℕ) → upper op ≡ hi → NoneOf (lower op) (fails (λ lo. f (hi * 16 + lo)) 16) → T (f op)
-else-in-row f hi op h d =
-    let w : hi * 16 + lower op ≡ op = omega arith in
-    rw w at (else-passes (λ lo. f (hi * 16 + lo)) 16 (lower op) (omega arith) d)
-
+-- a cell without an instruction is blank
 pub blank-is : (e : Entry) → T (not (defined e)) → Blank ≡ e
 blank-is Blank t = refl
 blank-is (Of k) t = absurd t

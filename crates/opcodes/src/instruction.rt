@@ -11,8 +11,7 @@ const OPCODE_UNDEFINED: u8 = 5;
 
 const NO_INSTRUCTION: u8 = 8;
 
-// An instruction's length, by the lower nibble; CALL @RR is the one exception. It is asked for in its own column alone: where the
-// compiler has told the columns apart for the kind, it then knows the length as well, and nothing is compared.
+// An instruction's length, by the lower nibble; CALL @RR is the one exception, and is asked for in its own column alone.
 pub fn length_of(op: u8) -> u8
     ensures { λ r. ⌜ r ≡ lengthOf op ⌝ }
 {

@@ -1,5 +1,5 @@
 // The opcode map: what each opcode is, and its length; decoding and encoding. Its cycles are a definition (specs/Cycles.antt): the code has
-// them where the kind is known, in the room `deeds`.
+// them where the kind is known, in the rooms of the rows.
 pub mod instruction;
 pub mod map;
 

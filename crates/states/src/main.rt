@@ -4,7 +4,6 @@ use libc::STDOUT_FILENO;
 use machine::Bytes;
 use machine::Machine;
 use machine::Pins;
-use machine::Stores;
 ghost use Prim.Native.Nat.{_≤_};
 ghost use lib.ListN.{length};
 
@@ -119,10 +118,10 @@ fn reads(i: u32) -> u32 {
     let m = drawn(i);
     let p = pins(i);
     let regs = m.regs;
-    let k = machine::core_of(m);
+    let rest = lent::lend(m);
     let mut h = 0;
     for a in 0..256u32 {
-        h = mixed(h, machine::registers::read(&regs, k, p, a as u8) as u32);
+        h = mixed(h, lent::registers::read(&regs, &rest, p, a as u8) as u32);
     }
     h
 }
@@ -131,9 +130,9 @@ fn reads(i: u32) -> u32 {
 fn writes(i: u32) -> u32 {
     let m = drawn(i);
     let mut regs = m.regs;
-    let k = machine::core_of(m);
-    let after = machine::registers::write(&mut regs, k, address(i, 305), byte(i, 306));
-    with_machine(0, machine::machine_of(regs, after))
+    let mut rest = lent::lend(m);
+    lent::registers::write(&mut regs, &mut rest, address(i, 305), byte(i, 306));
+    with_machine(0, lent::machine_of(regs, &rest))
 }
 
 // The addresses that operand fields lead to. Half of the fields are Ex.
@@ -141,7 +140,7 @@ fn addresses(i: u32) -> u32 {
     let m = drawn(i);
     let p = pins(i);
     let regs = m.regs;
-    let k = machine::core_of(m);
+    let rest = lent::lend(m);
     let v = byte(i, 305);
     let b = if draw(i, 306) % 2 == 0 {
         0xE0 + v % 16
@@ -149,12 +148,12 @@ fn addresses(i: u32) -> u32 {
         v
     };
     let x = byte(i, 307) % 16;
-    let direct = machine::addresses::register(&regs, k, b);
-    let working = machine::addresses::working(&regs, k, x);
-    let indirect = machine::addresses::indirect(&regs, k, p, b);
-    let through = machine::addresses::working_indirect(&regs, k, p, x);
-    let indexed = machine::addresses::indexed(&regs, k, p, v, x);
-    let pair = machine::addresses::read_pair(&regs, k, p, b);
+    let direct = lent::addresses::register(&regs, &rest, b);
+    let working = lent::addresses::working(&regs, &rest, x);
+    let indirect = lent::addresses::indirect(&regs, &rest, p, b);
+    let through = lent::addresses::working_indirect(&regs, &rest, p, x);
+    let indexed = lent::addresses::indexed(&regs, &rest, p, v, x);
+    let pair = lent::addresses::read_pair(&regs, &rest, p, b);
     let h = mixed(
         mixed(mixed(0, direct as u32), working as u32),
         indirect as u32,
@@ -166,21 +165,21 @@ fn addresses(i: u32) -> u32 {
 fn pairs(i: u32) -> u32 {
     let m = drawn(i);
     let mut regs = m.regs;
-    let k = machine::core_of(m);
+    let mut rest = lent::lend(m);
     let w = (draw(i, 306) % 65536) as u16;
-    let after = machine::addresses::write_pair(&mut regs, k, address(i, 305), w);
-    with_machine(0, machine::machine_of(regs, after))
+    lent::addresses::write_pair(&mut regs, &mut rest, address(i, 305), w);
+    with_machine(0, lent::machine_of(regs, &rest))
 }
 
 // A data address near where data memory begins, near the end of what is lent, or anywhere.
-fn data_address(i: u32, lent: u32) -> u16
-    requires { ⌜ lent ≤ 4999 ⌝ }
+fn data_address(i: u32, length: u32) -> u16
+    requires { ⌜ length ≤ 4999 ⌝ }
 {
     let near = draw(i, 307) % 8;
     match draw(i, 308) % 6 {
         0 => (2044 + near) as u16,
         1 => (4092 + near) as u16,
-        2 => (lent + near) as u16,
+        2 => (length + near) as u16,
         3 => (65528 + near) as u16,
         4 => near as u16,
         _ => (draw(i, 309) % 65536) as u16,
@@ -188,7 +187,7 @@ fn data_address(i: u32, lent: u32) -> u16
 }
 
 // How much data memory is lent for question i: up to 4,999 bytes, often about the two starts.
-fn lent(i: u32) -> u32
+fn given_memory(i: u32) -> u32
     ensures below { λ r. ⌜ r ≤ 4999 ⌝ }
 {
     match draw(i, 310) % 4 {
@@ -217,30 +216,24 @@ fn pushing(i: u32) -> Bytes {
 
 // A machine whose stack pointer, as a word, is at a data address of interest.
 fn stacked(i: u32) -> Machine {
-    let sp = data_address(i, lent(i));
+    let sp = data_address(i, given_memory(i));
     drawn_at(i, word::high_byte(sp), word::low_byte(sp))
 }
 
-// Data memory after what is stored there.
-fn with_stores(h: u32, kind: u8, mem: &mut [u8], s: Stores) -> u32 {
-    machine::memory::store(kind, mem, s);
-    with_bytes(h, mem)
+// Bytes pushed: the machine, and data memory.
+fn pushed_on(i: u32, mem: &mut [u8]) -> u32 {
+    let m = stacked(i);
+    let mut regs = m.regs;
+    let mut rest = lent::lend(m);
+    lent::stack::push(&mut regs, &mut rest, mem, pushing(i));
+    with_bytes(with_machine(0, lent::machine_of(regs, &rest)), mem)
 }
 
-// Bytes pushed.
 fn pushes(i: u32) -> u32 {
-    let m = stacked(i);
-    let kind = m.kind;
-    let mut regs = m.regs;
-    let k = machine::core_of(m);
-    let pushed = machine::stack::push(&mut regs, k, pushing(i));
     let mut mem = [0u8; 5000];
     draw_data(&mut mem, i);
-    let stores = pushed.stores;
-    let n = lent(i) as usize;
-    let after = pushed.k;
-    let h = with_machine(0, machine::machine_of(regs, after));
-    with_stores(h, kind, &mut mem[0..n], stores)
+    let n = given_memory(i) as usize;
+    pushed_on(i, &mut mem[0..n])
 }
 
 // Bytes popped.
@@ -248,35 +241,36 @@ fn pops(i: u32) -> u32 {
     let m = stacked(i);
     let p = pins(i);
     let mut regs = m.regs;
-    let k = machine::core_of(m);
+    let rest = lent::lend(m);
     let mut mem = [0u8; 5000];
     draw_data(&mut mem, i);
-    let n = lent(i) as usize;
+    let n = given_memory(i) as usize;
     let count = (1 + draw(i, 315) % 3) as u8;
-    let x = machine::stack::byte_at(&regs, k, p, &mem[0..n], 0);
-    let y = machine::stack::byte_at(&regs, k, p, &mem[0..n], 1);
-    let z = machine::stack::byte_at(&regs, k, p, &mem[0..n], 2);
-    let after = machine::stack::raise(&mut regs, k, count);
+    let x = lent::stack::byte_at(&regs, &rest, p, &mem[0..n], 0);
+    let y = lent::stack::byte_at(&regs, &rest, p, &mem[0..n], 1);
+    let z = lent::stack::byte_at(&regs, &rest, p, &mem[0..n], 2);
+    lent::stack::raise(&mut regs, &rest, count);
     let h = mixed(mixed(mixed(0, x as u32), y as u32), z as u32);
-    with_machine(h, machine::machine_of(regs, after))
+    with_machine(h, lent::machine_of(regs, &rest))
+}
+
+// Data memory after a byte is stored there.
+fn with_stored(h: u32, kind: u8, mem: &mut [u8], a: u16, v: u8) -> u32 {
+    machine::memory::store_byte(kind, mem, a, v);
+    with_bytes(h, mem)
 }
 
 // A byte of the program and a byte of data memory, and one stored there.
 fn memories(i: u32) -> u32 {
     let mut mem = [0u8; 5000];
     draw_data(&mut mem, i);
-    let n = lent(i) as usize;
-    let a = data_address(i, lent(i));
+    let n = given_memory(i) as usize;
+    let a = data_address(i, given_memory(i));
     let kind = 1 + byte(i, 305) % 2 * 10;
     let program = machine::memory::program(&mem[0..n], a);
     let data = machine::memory::load(kind, &mem[0..n], a);
     let h = mixed(mixed(0, program as u32), data as u32);
-    with_stores(
-        h,
-        kind,
-        &mut mem[0..n],
-        Stores::At(a, Bytes::One(byte(i, 306))),
-    )
+    with_stored(h, kind, &mut mem[0..n], a, byte(i, 306))
 }
 
 fn resets(i: u32) -> u32 {
@@ -345,12 +339,11 @@ fn spans(i: u32) -> u32 {
     }
     let m = l.machine;
     let mut regs = m.regs;
-    let k = machine::core_of(m);
-    let x = machine::clock::span(&mut regs, k, draw(i, 305) % 4096);
-    let after = x.k;
+    let mut rest = lent::lend(m);
+    let x = lent::clock::span(&mut regs, &mut rest, draw(i, 305) % 4096);
     with_machine(
         mixed(mixed(0, x.ends0), x.ends1),
-        machine::machine_of(regs, after),
+        lent::machine_of(regs, &rest),
     )
 }
 

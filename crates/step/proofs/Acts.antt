@@ -1,11 +1,11 @@
 -- What is done, by what is granted and by the map's entry; and what it comes to where the pins given are the last already. Assumes nothing.
 use mathlib.Core.Path.{_≡_, refl, ap, sym, _∙_, subst}
-use mathlib.Core.Bool.{true, false}
+use mathlib.Core.Bool.{Bool, true, false}
 use mathlib.Core.List.{List, [], _∷_}
 use Prim.Native.Nat.{ℕ, zero, suc, _<_}
 use native.Mathlib.Nat.{zero-add}
 use native.Mathlib.Omega.{arith}
-use borrow.Author.Tests.{ne-eqb}
+use borrow.Author.Tests.{eqb-true}
 use lib.Dec.{T, eqb}
 use lib.ListN.{getD}
 use Rattle.word.proofs.Computed.{by-test}
@@ -20,18 +20,21 @@ use Rattle.machine.specs.Legal.{Legal}
 use Rattle.machine.specs.declared.Machine.{Machine}
 use Rattle.machine.specs.declared.Pins.{Pins}
 use Rattle.machine.proofs.Whole.{span-last3}
+use Rattle.lent.specs.View.{Left, stacked}
 use Rattle.deeds.proofs.Fits.{AllRead}
 use Rattle.execute.specs.Execute.{Execution, refusedOf, codeAt, performOf, executeAs, executeOf}
+use Rattle.execute.specs.ForCode.{Performed, performed, performedBy}
 use Rattle.execute.proofs.Theorems.{undefined-refused, defined-done}
 use Rattle.execute.proofs.Last3.{execute-leaves}
 use Rattle.interrupts.specs.Edges.{comparedOf}
 use Rattle.interrupts.specs.Grants.{granted, grantOf}
+use Rattle.interrupts.specs.Entry.{enteredOf}
 use Rattle.interrupts.specs.declared.grants.Grant.{Grant}
 use Rattle.interrupts.specs.declared.grants.Grant.the-variants as grant
 use Rattle.interrupts.proofs.Steady.{compared-leaves, compared-again, compared-last}
 use Rattle.interrupts.proofs.Legal.{entered-leaves}
 use Rattle.step.specs.Step.{Progress, Action, grantedOr, actOn, actionOf, clockedOn, stepOf}
-use Rattle.step.proofs.Good.{unclocked}
+use Rattle.step.proofs.Good.{granted-costs, unclocked}
 
 -- the bytes of a slice, read past its end too
 pub read-any : (l : List ℕ) → ((i : ℕ) → getD l i 0 < 256) → AllRead l
@@ -74,6 +77,12 @@ granted-is p m l =
     let left = compared-leaves m (p .port3) (l .file .long) (l .file .bytes 0xF1) in
     rw (left .place-left 0xFB (omega arith) (omega arith), left .place-left 0xF9 (omega arith) (omega arith))
 
+-- what is left when a request was entered
+pub entered-left : (p : Pins) (image mem : List ℕ) (m : Machine) (n : ℕ) (l : Left) → l ≡ stacked (m .kind) mem (enteredOf image m n)
+    → performed (l .machine) (l .memory) (m .cost) ≡ performedBy m mem (grantedOr p image mem m (grant.Request n))
+unfolding grantedOr
+entered-left p image mem m n l e = rw e
+
 -- ---- on pins that are the last already
 module _ (p : Pins) (image mem : List ℕ) (m : Machine) where
   -- what is done
@@ -105,24 +114,42 @@ module _ (p : Pins) (image mem : List ℕ) (m : Machine) where
         (λ t. refl)
         (λ t. ap (λ (x : Execution). record { done = x; ends1 = 0 }) (refused-is (grantOf m) t)))
 
-    -- a step, as the code has it: x is what was done, r the machine after the clock
-    module _ (x : Execution) (i : x ≡ doneOn) where
-      clocked : stepOf p image mem m ≡ clockedOn m mem (record { done = x; ends1 = 0 })
+    -- a step, as the code has it: x is what was left of it before the clock, r the machine after it
+    module _ (li : AllRead image) (x : Performed) (i : x ≡ performedBy m mem doneOn) where
+      clocked : stepOf p image mem m ≡ clockedOn m mem (record { done = doneOn; ends1 = 0 })
       unfolding stepOf
-      clocked = ap (clockedOn m mem) (action-is ∙ ap (λ (y : Execution). record { done = y; ends1 = 0 }) (sym i))
+      clocked = ap (clockedOn m mem) action-is
 
-      pub step-refused : (x .refusal ≡ 0 → ⊥)
-          → _≡_ {A = Progress} (record { refusal = x .refusal; cycles = 0; ends0 = 0; ends1 = 0; machine = x .machine; memory = mem }) (stepOf p image mem m)
-      step-refused d =
-          let same : refusedOf m ≡ x = refused-is (grantOf m) (ap (λ (y : Execution). eqb (y .refusal) 0) (sym i) ∙ ne-eqb (x .refusal) 0 d) ∙ sym i in
-          ap (λ (y : Execution). record { refusal = y .refusal; cycles = 0; ends0 = 0; ends1 = 0; machine = y .machine; memory = mem }) (sym same)
+      -- it has cycles exactly where it isn't refused
+      no-cycles : x .cycles ≡ 0 → eqb (doneOn .refusal) 0 ≡ false
+      no-cycles z = go (eqb (doneOn .refusal) 0) refl
+        where
+          go : (b : Bool) → eqb (doneOn .refusal) 0 ≡ b → b ≡ false
+          go false t = refl
+          go true t =
+              let low = granted-costs p image mem m (grantOf m) l li (eqb-true (doneOn .refusal) 0 t) .0 in
+              let none : doneOn .cycles ≡ 0 = sym (ap (λ (y : Performed). y .cycles) i) ∙ z in
+              absurd (omega (arith, low, none))
+
+      some-cycles : (x .cycles ≡ 0 → ⊥) → doneOn .refusal ≡ 0
+      some-cycles n = go (eqb (doneOn .refusal) 0) refl
+        where
+          go : (b : Bool) → eqb (doneOn .refusal) 0 ≡ b → doneOn .refusal ≡ 0
+          go true t = eqb-true (doneOn .refusal) 0 t
+          go false t = absurd (n (ap (λ (y : Performed). y .cycles) i ∙ sym (ap (λ (y : Execution). y .cycles) (refused-is (grantOf m) t))))
+
+      pub step-refused : x .cycles ≡ 0
+          → _≡_ {A = Progress} (record { refusal = 5; cycles = 0; ends0 = 0; ends1 = 0; machine = x .machine; memory = x .memory }) (stepOf p image mem m)
+      unfolding storedIn
+      step-refused z =
+          let same : refusedOf m ≡ doneOn = refused-is (grantOf m) (no-cycles z) in
+          ap (λ (y : Performed). record { refusal = 5; cycles = 0; ends0 = 0; ends1 = 0; machine = y .machine; memory = y .memory }) (i ∙ ap (performedBy m mem) (sym same))
           ∙ sym (clocked ∙ ap (λ (y : Execution). clockedOn m mem (record { done = y; ends1 = 0 })) (sym same) ∙ unclocked m mem)
 
-      pub step-taken : (r : Ran) → x .refusal ≡ 0 → r ≡ spanOf (x .cycles) (x .machine)
-          → _≡_ {A = Progress} (record { refusal = 0; cycles = x .cycles; ends0 = r .ends0; ends1 = r .ends1; machine = r .machine; memory = storedIn (m .kind) mem (x .stores) })
-          (stepOf p image mem m)
+      pub step-taken : (r : Ran) → (x .cycles ≡ 0 → ⊥) → r ≡ spanOf (x .cycles) (x .machine)
+          → _≡_ {A = Progress} (record { refusal = 0; cycles = x .cycles; ends0 = r .ends0; ends1 = r .ends1; machine = r .machine; memory = x .memory }) (stepOf p image mem m)
       unfolding clockedOn
-      step-taken r d s = rw (clocked, s, zero-add (spanOf (x .cycles) (x .machine) .ends1), d)
+      step-taken r n s = rw (clocked, s, i, zero-add (spanOf (doneOn .cycles) (doneOn .machine) .ends1), some-cycles n)
 
 -- ---- the last pins
 -- what is done on compared pins, where it is not refused

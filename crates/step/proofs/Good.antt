@@ -70,7 +70,7 @@ module _ (p : Pins) (image mem : List ℕ) where
       go entry.Blank e d = five-not-0 (sym (ap (λ (x : Execution). x .refusal) (undefined-refused p image mem m e)) ∙ d)
       go (entry.Of k) e d = let c = costs-6-to-20 p image mem m all e in (c .0, omega (arith, c .1))
 
-  granted-costs : (m : Machine) (g : Grant) → Legal m → AllRead image → Costs (grantedOr p image mem m g)
+  pub granted-costs : (m : Machine) (g : Grant) → Legal m → AllRead image → Costs (grantedOr p image mem m g)
   unfolding grantedOr
   granted-costs m grant.Nothing l all = execute-costs m all
   granted-costs m (grant.Request n) l all =

@@ -6,7 +6,6 @@ use Rattle.opcodes.specs.Instruction.{defined}
 use Rattle.opcodes.specs.Map.{entryOf}
 use Rattle.opcodes.specs.declared.Entry.{Entry}
 use Rattle.machine.specs.Memory.{programByte}
-use Rattle.machine.specs.State.{whole}
 use Rattle.machine.specs.Clock.{Ran}
 use Rattle.machine.specs.declared.Machine.{Machine}
 use Rattle.machine.specs.declared.Pins.{Pins}
@@ -19,10 +18,10 @@ use Rattle.step.specs.declared.Stepped.{Stepped}
 use Rattle.step.specs.declared.Passed.{Passed}
 use Rattle.interrupts.specs.declared.grants.Grant.the-variants as grant
 
--- what a step comes to beside a lent file and data memory
-abbrev pub progressOf : List ℕ → List ℕ → Went → Progress
-progressOf file mem w =
-    record { refusal = w .refusal; cycles = w .cycles; ends0 = w .ends0; ends1 = w .ends1; machine = whole file (w .k); memory = mem }
+-- what a step comes to beside a lent machine and data memory
+abbrev pub progressOf : Machine → List ℕ → Went → Progress
+progressOf m mem w =
+    record { refusal = w .refusal; cycles = w .cycles; ends0 = w .ends0; ends1 = w .ends1; machine = m; memory = mem }
 
 -- whether a step is refused, which is known before anything is stored
 abbrev pub refusedWhere : Grant → Entry → Bool
@@ -36,9 +35,6 @@ isRefusedOf p image m = refusedWhere (grantOf (comparedOf m (p .port3) .machine)
 abbrev pub steppedOf : List ℕ → Stepped → Progress
 steppedOf mem s =
     record { refusal = s .refusal; cycles = s .cycles; ends0 = s .ends0; ends1 = s .ends1; machine = s .machine; memory = mem }
-
-abbrev pub byValue : List ℕ → Went → Stepped
-byValue file w = record { refusal = w .refusal; cycles = w .cycles; ends0 = w .ends0; ends1 = w .ends1; machine = whole file (w .k) }
 
 abbrev pub passedOf : Passed → Ran
 passedOf p = record { machine = p .machine; ends0 = p .ends0; ends1 = p .ends1 }

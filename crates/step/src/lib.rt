@@ -1,30 +1,27 @@
-// The whole chip: one step, the bounded run, the span (01 "One step"). A `Machine` goes by value; below `step` and `run` its file is lent.
-use execute::Executed;
+// The whole chip: one step, the bounded run, the span (01 "One step"). A `Machine` goes by value; below `step` and `run` it is lent.
 use interrupts::grants::Grant;
-use machine::Core;
+use lent::Rest;
 use machine::Machine;
 use machine::Pins;
 ghost use mathlib.Core.Path.{_≡_};
 ghost use mathlib.Core.Bool.{true, false};
 ghost use mathlib.Core.List.{List};
-ghost use Prim.Native.Nat.{ℕ, _≤_, _<_};
-ghost use Rattle.machine.specs.State.{whole};
+ghost use Prim.Native.Nat.{ℕ, _≤_};
 ghost use Rattle.machine.specs.Legal.{Legal};
 ghost use Rattle.machine.specs.Clock.{spanOf};
-ghost use Rattle.execute.specs.ForCode.{executionOf};
-ghost use Rattle.step.specs.ForCode.{progressOf, isRefusedOf, steppedOf, byValue, passedOf};
+ghost use Rattle.lent.specs.View.{coreIn, machineIn};
+ghost use Rattle.execute.specs.ForCode.{performed, performedBy};
 ghost use Rattle.interrupts.specs.Grants.{grantOf};
-ghost use Rattle.interrupts.specs.Entry.{enteredOf};
-ghost use Rattle.step.specs.Step.{costingEntry, grantedOr, stepOf};
+ghost use Rattle.step.specs.Step.{grantedOr, stepOf};
 ghost use Rattle.step.specs.Run.{nothingDone, budgetLimit, stepsOf, runOf};
+ghost use Rattle.step.specs.ForCode.{progressOf, isRefusedOf, steppedOf, passedOf};
 
-// What a step or a run comes to, beside the file and the data memory that were lent.
+// What a step or a run comes to, beside the machine and the data memory that were lent.
 pub struct Went {
     pub refusal: u8,
     pub cycles: u32,
     pub ends0: u32,
     pub ends1: u32,
-    pub k: Core,
 }
 
 // The same with the machine by value.
@@ -46,84 +43,68 @@ pub struct Passed {
 // 01: a run budget over 1,000,000 cycles is refused.
 pub const BUDGET_LIMIT: u32 = 1000000;
 
-// Request n entered.
-fn enter(regs: &mut [u8; 256], k: Core, image: &[u8], n: u8) -> Executed
-    requires { ⌜ n < 6 ⌝ }
-    ensures { λ r. ⌜ executionOf (now (regs .exit)) r ≡ costingEntry (k .cost) (enteredOf (now (image .entry)) (whole (now (regs .entry)) k) n) ⌝ }
-{
-    let x = interrupts::entry::enter(regs, k, image, n);
-    let stores = x.stores;
-    let after = x.k;
-    Executed {
-        refusal: 0,
-        cycles: k.cost,
-        stores,
-        k: after,
-    }
-}
+// 01: an undefined opcode is refused.
+const OPCODE_UNDEFINED: u8 = 5;
 
-// A grant, or else an instruction, where the pins have been compared.
-fn act(regs: &mut [u8; 256], k: Core, pins: Pins, image: &[u8], mem: &[u8]) -> Executed
-    ensures { λ r. ⌜ executionOf (now (regs .exit)) r ≡ grantedOr pins (now (image .entry)) (now (mem .entry)) (whole (now (regs .entry)) k) (grantOf (whole (now (regs .entry)) k)) ⌝ }
+// A grant, or else an instruction, where the pins have been compared: its cycles, or 0 where it is refused.
+fn act(regs: &mut [u8; 256], rest: &mut Rest, pins: Pins, image: &[u8], mem: &mut [u8]) -> u32
+    ensures { λ r. ⌜ performed (machineIn (now (regs .exit)) (now (rest .exit))) (now (mem .exit)) r ≡ performedBy (machineIn (now (regs .entry)) (now (rest .entry))) (now (mem .entry)) (grantedOr pins (now (image .entry)) (now (mem .entry)) (machineIn (now (regs .entry)) (now (rest .entry))) (grantOf (machineIn (now (regs .entry)) (now (rest .entry))))) ⌝ }
 {
-    let irq = machine::registers::held(regs, 0xFA);
-    let imr = machine::registers::held(regs, 0xFB);
-    let ipr = machine::registers::held(regs, 0xF9);
+    let irq = machine::file::held(regs, 0xFA);
+    let imr = machine::file::held(regs, 0xFB);
+    let ipr = machine::file::held(regs, 0xF9);
     let g = interrupts::grants::granted(irq, imr, ipr);
     match g {
-        Grant::Nothing => execute::execute(regs, k, pins, image, mem),
-        Grant::Request(n) => enter(regs, k, image, n),
+        Grant::Nothing => perform::execute_here(regs, rest, pins, mem, image),
+        Grant::Request(n) => {
+            let cost = lent::cost(rest);
+            interrupts::entry::enter(regs, rest, mem, image, n);
+            cost as u32
+        }
     }
 }
 
-// One step on a lent file and data memory, where the pins given are the last already, so that there is nothing to compare. What is
-// refused leaves at once, and data memory is stored to before the clock: so the compiler sees in each instruction that it is not
-// refused, and in most that nothing is to be stored.
-fn step_in(regs: &mut [u8; 256], k: Core, pins: Pins, image: &[u8], mem: &mut [u8]) -> Went
-    requires { ⌜ Legal (whole (now regs) k) ⌝ }
-    requires { ⌜ k .last3 ≡ pins .port3 ⌝ }
-    ensures { λ r. ⌜ progressOf (now (regs .exit)) (now (mem .exit)) r ≡ stepOf pins (now (image .entry)) (now (mem .entry)) (whole (now (regs .entry)) k) ⌝ }
+// One step on a lent machine, where the pins given are the last already, so that there is nothing to compare.
+fn step_in(regs: &mut [u8; 256], rest: &mut Rest, pins: Pins, image: &[u8], mem: &mut [u8]) -> Went
+    requires { ⌜ Legal (machineIn (now regs) (now rest)) ⌝ }
+    requires { ⌜ coreIn (now rest) .last3 ≡ pins .port3 ⌝ }
+    ensures { λ r. ⌜ progressOf (machineIn (now (regs .exit)) (now (rest .exit))) (now (mem .exit)) r ≡ stepOf pins (now (image .entry)) (now (mem .entry)) (machineIn (now (regs .entry)) (now (rest .entry))) ⌝ }
 {
-    let x = act(regs, k, pins, image, mem);
-    let done = x.k;
-    if x.refusal != 0 {
+    let cycles = act(regs, rest, pins, image, mem);
+    if cycles == 0 {
         return Went {
-            refusal: x.refusal,
+            refusal: OPCODE_UNDEFINED,
             cycles: 0,
             ends0: 0,
             ends1: 0,
-            k: done,
         };
     }
-    let cycles = x.cycles as u32;
-    let stores = x.stores;
-    machine::memory::store(k.kind, mem, stores);
-    let c = machine::clock::span(regs, done, cycles);
-    let clocked = c.k;
+    let e = lent::clock::span(regs, rest, cycles);
     Went {
         refusal: 0,
         cycles,
-        ends0: c.ends0,
-        ends1: c.ends1,
-        k: clocked,
+        ends0: e.ends0,
+        ends1: e.ends1,
     }
 }
 
 // Whether the next step is refused: nothing is granted, the edges counted, and the opcode is undefined. That is known before anything is
 // stored.
-fn is_refused(regs: &[u8; 256], k: Core, pins: Pins, image: &[u8]) -> bool
-    requires { ⌜ Legal (whole (now regs) k) ⌝ }
-    ensures { λ r. ⌜ r ≡ isRefusedOf pins (now (image .entry)) (whole (now (regs .entry)) k) ⌝ }
-    ensures refused { λ r. ⌜ (r ≡ true → (mem : List ℕ) → stepOf pins (now (image .entry)) mem (whole (now (regs .entry)) k) ≡ nothingDone 5 (whole (now (regs .entry)) k) mem) ⌝ }
-    ensures taken { λ r. ⌜ (r ≡ false → (mem : List ℕ) → stepOf pins (now (image .entry)) mem (whole (now (regs .entry)) k) .refusal ≡ 0) ⌝ }
+fn is_refused(regs: &[u8; 256], rest: &Rest, pins: Pins, image: &[u8]) -> bool
+    requires { ⌜ Legal (machineIn (now regs) (now rest)) ⌝ }
+    ensures { λ r. ⌜ r ≡ isRefusedOf pins (now (image .entry)) (machineIn (now (regs .entry)) (now (rest .entry))) ⌝ }
+    ensures refused { λ r. ⌜ (r ≡ true → (mem : List ℕ) → stepOf pins (now (image .entry)) mem (machineIn (now (regs .entry)) (now (rest .entry))) ≡ nothingDone 5 (machineIn (now (regs .entry)) (now (rest .entry))) mem) ⌝ }
+    ensures taken { λ r. ⌜ (r ≡ false → (mem : List ℕ) → stepOf pins (now (image .entry)) mem (machineIn (now (regs .entry)) (now (rest .entry))) .refusal ≡ 0) ⌝ }
 {
-    let irq = interrupts::edges::requests(regs, k, pins.port3);
-    let imr = machine::registers::held(regs, 0xFB);
-    let ipr = machine::registers::held(regs, 0xF9);
-    let g = interrupts::grants::granted_first(irq, imr, ipr);
+    let irq = interrupts::edges::requests(regs, rest, pins.port3);
+    let imr = machine::file::held(regs, 0xFB);
+    let ipr = machine::file::held(regs, 0xF9);
+    let standing = interrupts::grants::standing(irq, imr);
+    let g = interrupts::grants::highest(standing, ipr);
     match g {
         Grant::Nothing => {
-            let op = machine::memory::program(image, k.pc);
+            let pc = lent::pc(rest);
+            let op = machine::memory::program(image, pc);
             !opcodes::map::is_defined(op)
         }
         Grant::Request(_) => false,
@@ -134,15 +115,15 @@ fn is_refused(regs: &[u8; 256], k: Core, pins: Pins, image: &[u8]) -> bool
 // they are compared once, before the steps, where the first is not refused.
 fn steps(
     regs: &mut [u8; 256],
-    k: Core,
+    rest: &mut Rest,
     pins: Pins,
     image: &[u8],
     mem: &mut [u8],
     budget: u32,
 ) -> Went
-    requires { ⌜ Legal (whole (now regs) k) ⌝ }
+    requires { ⌜ Legal (machineIn (now regs) (now rest)) ⌝ }
     requires { ⌜ budget ≤ budgetLimit ⌝ }
-    ensures { λ r. ⌜ progressOf (now (regs .exit)) (now (mem .exit)) r ≡ stepsOf pins (now (image .entry)) (now (mem .entry)) (whole (now (regs .entry)) k) budget ⌝ }
+    ensures { λ r. ⌜ progressOf (machineIn (now (regs .exit)) (now (rest .exit))) (now (mem .exit)) r ≡ stepsOf pins (now (image .entry)) (now (mem .entry)) (machineIn (now (regs .entry)) (now (rest .entry))) budget ⌝ }
 {
     if budget == 0 {
         return Went {
@@ -150,35 +131,28 @@ fn steps(
             cycles: 0,
             ends0: 0,
             ends1: 0,
-            k,
         };
     }
-    let refused = is_refused(regs, k, pins, image);
+    let refused = is_refused(regs, rest, pins, image);
     if refused {
         return Went {
-            refusal: 5,
+            refusal: OPCODE_UNDEFINED,
             cycles: 0,
             ends0: 0,
             ends1: 0,
-            k,
         };
     }
-    let c = interrupts::edges::compare(regs, k, pins.port3);
-    let mut at = c.k;
     let mut cycles: u32 = 0;
     let mut ends0: u32 = 0;
-    let mut ends1: u32 = c.ends1;
+    let mut ends1 = interrupts::edges::compare(regs, rest, pins.port3);
     while cycles < budget {
-        let s = step_in(regs, at, pins, image, mem);
-        let next = s.k;
-        at = next;
+        let s = step_in(regs, rest, pins, image, mem);
         if s.refusal != 0 {
             return Went {
                 refusal: s.refusal,
                 cycles,
                 ends0,
                 ends1,
-                k: at,
             };
         }
         cycles = cycles + s.cycles;
@@ -190,22 +164,6 @@ fn steps(
         cycles,
         ends0,
         ends1,
-        k: at,
-    }
-}
-
-// The machine of a lent file and the rest.
-fn by_value(regs: [u8; 256], w: Went) -> Stepped
-    ensures { λ r. ⌜ r ≡ byValue regs w ⌝ }
-{
-    let k = w.k;
-    let machine = machine::machine_of(regs, k);
-    Stepped {
-        refusal: w.refusal,
-        cycles: w.cycles,
-        ends0: w.ends0,
-        ends1: w.ends1,
-        machine,
     }
 }
 
@@ -224,13 +182,19 @@ pub fn run(m: Machine, pins: Pins, image: &[u8], mem: &mut [u8], budget: u32) ->
         };
     }
     let mut regs = m.regs;
-    let k = machine::core_of(m);
-    let w = steps(&mut regs, k, pins, image, mem, budget);
-    by_value(regs, w)
+    let mut rest = lent::lend(m);
+    let w = steps(&mut regs, &mut rest, pins, image, mem, budget);
+    let after = lent::machine_of(regs, &rest);
+    Stepped {
+        refusal: w.refusal,
+        cycles: w.cycles,
+        ends0: w.ends0,
+        ends1: w.ends1,
+        machine: after,
+    }
 }
 
-// One step. It costs a cycle at least, so it is the run that reaches a budget of one. (With `run` as their one caller the steps have the
-// file in its frame.)
+// One step. It costs a cycle at least, so it is the run that reaches a budget of one.
 pub fn step(m: Machine, pins: Pins, image: &[u8], mem: &mut [u8]) -> Stepped
     requires { ⌜ Legal m ⌝ }
     ensures { λ r. ⌜ steppedOf (now (mem .exit)) r ≡ stepOf pins (now (image .entry)) (now (mem .entry)) m ⌝ }
@@ -244,15 +208,12 @@ pub fn span(m: Machine, n: u32) -> Passed
     ensures { λ r. ⌜ passedOf r ≡ spanOf n m ⌝ }
 {
     let mut regs = m.regs;
-    let k = machine::core_of(m);
-    let c = machine::clock::long_span(&mut regs, k, n);
-    let ends0 = c.ends0;
-    let ends1 = c.ends1;
-    let after = c.k;
-    let machine = machine::machine_of(regs, after);
+    let mut rest = lent::lend(m);
+    let e = lent::clock::long_span(&mut regs, &mut rest, n);
+    let machine = lent::machine_of(regs, &rest);
     Passed {
-        ends0,
-        ends1,
+        ends0: e.ends0,
+        ends1: e.ends1,
         machine,
     }
 }

@@ -61,11 +61,12 @@ pub fn plus(w: u16, n: u16) -> u16
     std::num::wrapping_add_u16(w, n)
 }
 
-// An operand byte as a signed displacement, -128 to 127.
+// An operand byte as a signed displacement, -128 to 127: 128 more, modulo 256, and 128 taken away again, which the compiler makes one
+// instruction of.
 pub fn displacement(b: u8) -> i16
     ensures { λ r. ⌜ r ≡ dispOf b ⌝ }
 {
-    if b < 128 { b as i16 } else { b as i16 - 256 }
+    ((b as u16 + 128) % 256) as i16 - 128
 }
 
 // w moved by an operand byte's displacement. 256 more than the displacement is never negative, and 65,280 takes the 256

@@ -16,8 +16,8 @@ drawn-requires c κs = tt
 pins-requires : tie.Need-pins-requires Inv-loop μ-loop
 pins-requires c κs = tt
 
-core-of-requires : tie.Need-core-of-requires Inv-loop μ-loop
-core-of-requires c κs = tt
+lend-requires : tie.Need-lend-requires Inv-loop μ-loop
+lend-requires c κs = tt
 
 loop-holds : tie.Need-loop-holds Inv-loop μ-loop
 loop-holds c = omega arith
@@ -54,7 +54,7 @@ reads-spec =
     μ-loop
     drawn-requires
     pins-requires
-    core-of-requires
+    lend-requires
     loop-holds
     cast-read
     read-requires

@@ -17,14 +17,14 @@ load-requires c κs = search needs
 returns : tie.Need-returns
 returns c = search needs
 
-core-of-requires : tie.Need-core-of-requires
-core-of-requires c κs = search needs
+lend-requires : tie.Need-lend-requires
+lend-requires c κs = search needs
 
 draw-requires : tie.Need-draw-requires
 draw-requires c κs = search needs
 
 span-requires : tie.Need-span-requires
-span-requires c κs = rw (c .before .before .core-of .ensures) (c .before .before .before .before .before .before .load .ensures .1 (c .before .before .before .before .before .if1 .left))
+span-requires c κs = rw (c .before .before .before .lend .ensures) (c .before .before .before .before .before .before .before .load .ensures .1 (c .before .before .before .before .before .before .if1 .left))
 
 mixed-requires : tie.Need-mixed-requires
 mixed-requires c κs = search needs
@@ -50,7 +50,7 @@ spans-spec =
     slice-aggregate-load
     load-requires
     returns
-    core-of-requires
+    lend-requires
     draw-requires
     span-requires
     mixed-requires

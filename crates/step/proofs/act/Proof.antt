@@ -5,6 +5,7 @@ use mathlib.Core.Path.{sym, _∙_}
 use Rattle.interrupts.specs.Grants.{grantOf}
 use Rattle.interrupts.proofs.Orders.{granted-low}
 use Rattle.step.specs.Step.{grantedOr}
+use Rattle.step.proofs.Acts.{entered-left}
 
 held-requires : tie.Need-held-requires
 held-requires c κs = search needs
@@ -21,22 +22,34 @@ granted-requires c κs = search needs
 enum-told : tie.Need-enum-told
 enum-told c = search needs
 
-execute-requires : tie.Need-execute-requires
-execute-requires c κs = search needs
+execute-here-requires : tie.Need-execute-here-requires
+execute-here-requires c κs = search needs
 
 enum-known-g : tie.Need-enum-known-g
 enum-known-g c = search needs
 
+cost-requires : tie.Need-cost-requires
+cost-requires c κs = search needs
+
 enter-requires : tie.Need-enter-requires
-enter-requires c κs = granted-low _ _ _ _ (search needs) (sym (c .before .before .before .before .granted .ensures) ∙ c .before .before .g .given .1)
+enter-requires c κs = granted-low _ _ _ _ (search needs) (sym (c .before .before .before .before .before .before .before .before .granted .ensures) ∙ c .before .before .before .before .before .before .g .given .1)
+
+cast-result : tie.Need-cast-result
+cast-result c = search needs
+
+same-length : tie.Need-same-length
+same-length c = search needs
 
 returns : tie.Need-returns
 unfolding grantedOr grantOf
-returns c = let g = rw (c .before .before .before .before .before .held3 .ensures, c .before .before .before .before .before .before .before .held2 .ensures, c .before .before .before .before .before .before .before .before .before .held .ensures) at (c .before .before .before .before .granted .ensures) in rw (← g, c .before .before .enum-told .given .1) (c .execute .ensures)
+returns c = let g = rw (c .before .before .before .before .before .before .before .before .before .held3 .ensures, c .before .before .before .before .before .before .before .before .before .before .before .held2 .ensures, c .before .before .before .before .before .before .before .before .before .before .before .before .before .held .ensures) at (c .before .before .before .before .before .before .before .before .granted .ensures) in rw (← g, c .before .before .before .before .before .before .enum-told .given .1) (c .before .before .execute-here .ensures)
+
+same-length-2 : tie.Need-same-length-2
+same-length-2 c = search needs
 
 returns-2 : tie.Need-returns-2
 unfolding grantedOr grantOf
-returns-2 c = let g = rw (c .before .before .before .before .before .before .held3 .ensures, c .before .before .before .before .before .before .before .before .held2 .ensures, c .before .before .before .before .before .before .before .before .before .before .held .ensures) at (c .before .before .before .before .before .granted .ensures) in rw (← g, c .before .before .before .g .given .1) (c .enter .ensures)
+returns-2 c = let g = rw (c .before .before .before .before .before .before .before .before .before .before .before .before .held3 .ensures, c .before .before .before .before .before .before .before .before .before .before .before .before .before .before .held2 .ensures, c .before .before .before .before .before .before .before .before .before .before .before .before .before .before .before .before .held .ensures) at (c .before .before .before .before .before .before .before .before .before .before .before .granted .ensures) in rw (← g, c .before .before .before .before .before .before .before .before .before .g .given .1, c .before .before .before .before .before .before .cost .ensures) (entered-left (c .before .before .before .before .before .before .before .before .before .before .before .before .before .before .before .before .before .before .before .before .args .pins) _ _ _ _ _ (c .before .before .enter .ensures))
 
 pub act-spec : {M : Type 1} → statement M
 act-spec =
@@ -47,8 +60,12 @@ act-spec =
     held-requires-3
     granted-requires
     enum-told
-    execute-requires
+    execute-here-requires
     enum-known-g
+    cost-requires
     enter-requires
+    cast-result
+    same-length
     returns
+    same-length-2
     returns-2)

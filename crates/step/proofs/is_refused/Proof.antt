@@ -5,7 +5,8 @@ use mathlib.Core.Path.{sym, _∙_, subst}
 use denote.Ref.{now}
 use lib.Dec.{T}
 use borrow.Author.Tests.{not-true, not-false}
-use Rattle.machine.specs.State.{whole}
+use Rattle.lent.specs.View.{machineIn}
+use Rattle.interrupts.proofs.Orders.{granted-standing}
 use Rattle.step.specs.ForCode.{isRefusedOf}
 use Rattle.step.proofs.Acts.{granted-is}
 use Rattle.step.proofs.Theorems.{told-refused, told-taken, granted-taken}
@@ -19,11 +20,17 @@ held-requires c κs = search needs
 held-requires-2 : tie.Need-held-requires-2
 held-requires-2 c κs = search needs
 
-granted-first-requires : tie.Need-granted-first-requires
-granted-first-requires c κs = search needs
+standing-requires : tie.Need-standing-requires
+standing-requires c κs = search needs
+
+highest-requires : tie.Need-highest-requires
+highest-requires c κs = search needs
 
 enum-told : tie.Need-enum-told
 enum-told c = search needs
+
+pc-requires : tie.Need-pc-requires
+pc-requires c κs = search needs
 
 program-requires : tie.Need-program-requires
 program-requires c κs = search needs
@@ -37,27 +44,20 @@ enum-told-2 c = search needs
 returns : tie.Need-returns
 unfolding isRefusedOf
 returns c =
-    let g = rw (c .before .before .before .before .before .held2 .ensures, c .before .before .before .before .before .before .held .ensures, c .before .before .before .before .before .before .before .requests .ensures) at (c .before .before .before .before .granted-first .ensures) in
-    let none = sym (granted-is (c .before .before .before .before .before .before .before .before .before .args .pins) (whole (now (c .before .before .before .before .before .before .before .before .before .args .regs)) (c .before .before .before .before .before .before .before .before .before .args .k)) (c .before .before .before .before .before .before .before .before .before .pre)) ∙ sym g ∙ c .before .before .enum-told .given .1 in
-    let d = rw (c .before .program .ensures) at (c .is-defined .ensures) in (
+    let g = rw (c .before .before .before .before .before .before .before .held2 .ensures, c .before .before .before .before .before .before .standing .ensures, c .before .before .before .before .before .before .before .before .held .ensures, c .before .before .before .before .before .before .before .before .before .requests .ensures, granted-standing) at (c .before .before .before .before .before .highest .ensures) in
+    let none = sym (granted-is (c .before .before .before .before .before .before .before .before .before .before .before .args .pins) (machineIn (now (c .before .before .before .before .before .before .before .before .before .before .before .args .regs)) (now (c .before .before .before .before .before .before .before .before .before .before .before .args .rest))) (c .before .before .before .before .before .before .before .before .before .before .before .pre)) ∙ sym g ∙ c .before .before .before .enum-told .given .1 in
+    let d = rw (c .before .program .ensures, c .before .before .pc .ensures) at (c .is-defined .ensures) in (
       rw (none, d),
-      (
-        λ t mem. told-refused (c .before .before .before .before .before .before .before .before .before .args .pins) (now (c .before .before .before .before .before .before .before .before .before .args .image)) mem (whole (now (c .before .before .before .before .before .before .before .before .before .args .regs)) (c .before .before .before .before .before .before .before .before .before .args .k)) (c .before .before .before .before .before .before .before .before .before .pre) none (sym d ∙ not-true _ t),
-        λ t mem. told-taken (c .before .before .before .before .before .before .before .before .before .args .pins) (now (c .before .before .before .before .before .before .before .before .before .args .image)) mem (whole (now (c .before .before .before .before .before .before .before .before .before .args .regs)) (c .before .before .before .before .before .before .before .before .before .args .k)) (c .before .before .before .before .before .before .before .before .before .pre) none (sym d ∙ not-false _ t),
-      ),
+      (λ t mem. told-refused (c .before .before .before .before .before .before .before .before .before .before .before .args .pins) (now (c .before .before .before .before .before .before .before .before .before .before .before .args .image)) mem (machineIn (now (c .before .before .before .before .before .before .before .before .before .before .before .args .regs)) (now (c .before .before .before .before .before .before .before .before .before .before .before .args .rest))) (c .before .before .before .before .before .before .before .before .before .before .before .pre) none (sym d ∙ not-true _ t), λ t mem. told-taken (c .before .before .before .before .before .before .before .before .before .before .before .args .pins) (now (c .before .before .before .before .before .before .before .before .before .before .before .args .image)) mem (machineIn (now (c .before .before .before .before .before .before .before .before .before .before .before .args .regs)) (now (c .before .before .before .before .before .before .before .before .before .before .before .args .rest))) (c .before .before .before .before .before .before .before .before .before .before .before .pre) none (sym d ∙ not-false _ t)),
     )
 
 returns-2 : tie.Need-returns-2
 unfolding isRefusedOf
 returns-2 c =
-    let g = rw (c .before .before .before .held2 .ensures, c .before .before .before .before .held .ensures, c .before .before .before .before .before .requests .ensures) at (c .before .before .granted-first .ensures) in
-    let some = sym (granted-is (c .before .before .before .before .before .before .before .args .pins) (whole (now (c .before .before .before .before .before .before .before .args .regs)) (c .before .before .before .before .before .before .before .args .k)) (c .before .before .before .before .before .before .before .pre)) ∙ sym g ∙ c .enum-told2 .given .1 in (
+    let g = rw (c .before .before .before .before .held2 .ensures, c .before .before .before .standing .ensures, c .before .before .before .before .before .held .ensures, c .before .before .before .before .before .before .requests .ensures, granted-standing) at (c .before .before .highest .ensures) in
+    let some = sym (granted-is (c .before .before .before .before .before .before .before .before .args .pins) (machineIn (now (c .before .before .before .before .before .before .before .before .args .regs)) (now (c .before .before .before .before .before .before .before .before .args .rest))) (c .before .before .before .before .before .before .before .before .pre)) ∙ sym g ∙ c .enum-told2 .given .1 in (
       rw (some),
-      (
-        λ t mem. absurd (subst T (sym t) tt),
-        λ t mem. granted-taken (c .before .before .before .before .before .before .before .args .pins) (now (c .before .before .before .before .before .before .before .args .image)) mem (whole (now (c .before .before .before .before .before .before .before .args .regs)) (c .before .before .before .before .before .before .before .args .k)) (c .before .before .before .before .before .before .before .pre)
-            some,
-      ),
+      (λ t mem. absurd (subst T (sym t) tt), λ t mem. granted-taken (c .before .before .before .before .before .before .before .before .args .pins) (now (c .before .before .before .before .before .before .before .before .args .image)) mem (machineIn (now (c .before .before .before .before .before .before .before .before .args .regs)) (now (c .before .before .before .before .before .before .before .before .args .rest))) (c .before .before .before .before .before .before .before .before .pre) some),
     )
 
 pub is-refused-spec : {M : Type 1} → statement M
@@ -67,8 +67,10 @@ is-refused-spec =
     requests-requires
     held-requires
     held-requires-2
-    granted-first-requires
+    standing-requires
+    highest-requires
     enum-told
+    pc-requires
     program-requires
     is-defined-requires
     enum-told-2

@@ -11,23 +11,23 @@ returns : tie.Need-returns
 unfolding runOf
 returns c = let over : ltb budgetLimit (c .before .before .before .args .budget) ≡ true = lt-ltb budgetLimit (c .before .before .before .args .budget) (c .if1 .taken) in rw over
 
-core-of-requires : tie.Need-core-of-requires
-core-of-requires c κs = search needs
+lend-requires : tie.Need-lend-requires
+lend-requires c κs = search needs
 
 steps-requires : tie.Need-steps-requires
-steps-requires c κs = (rw (c .before .before .core-of .ensures) (c .before .before .before .before .before .before .before .pre), c .before .before .before .before .if1 .left)
+steps-requires c κs = (rw (c .before .before .before .lend .ensures) (c .before .before .before .before .before .before .before .before .pre), c .before .before .before .before .before .if1 .left)
 
-by-value-requires : tie.Need-by-value-requires
-by-value-requires c κs = search needs
+machine-of-requires : tie.Need-machine-of-requires
+machine-of-requires c κs = search needs
 
 same-length : tie.Need-same-length
 same-length c = search needs
 
 returns-2 : tie.Need-returns-2
 unfolding runOf
-returns-2 c = let within : ltb budgetLimit (c .before .before .before .before .before .before .before .before .before .before .before .args .budget) ≡ false = le-ltb budgetLimit (c .before .before .before .before .before .before .before .before .before .before .before .args .budget) (c .before .before .before .before .before .before .before .before .if1 .left) in rw (c .by-value .ensures, c .before .before .before .steps .ensures, c .before .before .before .before .before .before .core-of .ensures, within)
+returns-2 c = let within : ltb budgetLimit (c .before .before .before .before .before .before .before .before .before .before .before .before .before .args .budget) ≡ false = le-ltb budgetLimit (c .before .before .before .before .before .before .before .before .before .before .before .before .before .args .budget) (c .before .before .before .before .before .before .before .before .before .before .if1 .left) in rw (c .machine-of .ensures, c .before .before .before .before .steps .ensures, c .before .before .before .before .before .before .before .before .lend .ensures, within)
 
 pub run-spec : {M : Type 1} → statement M
 run-spec =
     tie.close
-    (tie.spec returns core-of-requires steps-requires by-value-requires same-length returns-2)
+    (tie.spec returns lend-requires steps-requires machine-of-requires same-length returns-2)

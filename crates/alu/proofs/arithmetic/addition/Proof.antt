@@ -1,6 +1,9 @@
 use borrow.Author.Needs.{needs}
 use Rattle.alu.proofs.arithmetic.addition.Statement.{statement}
 use Rattle.alu.proofs.arithmetic.addition.Tie as tie
+use mathlib.Core.Path.{_≡_}
+use Prim.Native.Nat.{_+_, _/_, _%_}
+use Rattle.alu.proofs.Carries.{half-of-sum}
 use Rattle.alu.specs.Arithmetic.{additionOf}
 use Rattle.alu.specs.FlagByte.{packed}
 
@@ -16,11 +19,8 @@ cast-value c = search needs
 cast-carry : tie.Need-cast-carry
 cast-carry c = search needs
 
-add-half : tie.Need-add-half
-add-half c = search needs
-
-add-half-2 : tie.Need-add-half-2
-add-half-2 c = search needs
+half-carry-requires : tie.Need-half-carry-requires
+half-carry-requires c κs = search needs
 
 one-if-requires : tie.Need-one-if-requires
 one-if-requires c κs = search needs
@@ -33,7 +33,11 @@ pack-requires c κs = search needs
 
 returns : tie.Need-returns
 unfolding additionOf packed
-returns c = rw (c .pack .ensures, c .before .sum-overflow .ensures .0, c .before .before .one-if .ensures .0)
+returns c =
+    let s = c .before .before .before .before in
+    let half : c .before .before .before .half-carry .result ≡ (s .args .a % 16 + s .args .b % 16 + s .args .c) / 16 =
+    rw (c .before .before .before .half-carry .ensures .0) (half-of-sum (s .args .a) (s .args .b) (s .args .c) (s .pre)) in
+    rw (c .pack .ensures, c .before .sum-overflow .ensures .0, c .before .before .one-if .ensures .0, half)
 
 pub addition-spec : {M : Type 1} → statement M
 addition-spec =
@@ -43,8 +47,7 @@ addition-spec =
     add-wide-2
     cast-value
     cast-carry
-    add-half
-    add-half-2
+    half-carry-requires
     one-if-requires
     sum-overflow-requires
     pack-requires

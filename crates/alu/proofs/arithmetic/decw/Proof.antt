@@ -1,7 +1,12 @@
 use borrow.Author.Needs.{needs}
 use Rattle.alu.proofs.arithmetic.decw.Statement.{statement}
 use Rattle.alu.proofs.arithmetic.decw.Tie as tie
-use Rattle.alu.specs.Arithmetic.{decwOf}
+use native.Mathlib.Omega.{arith}
+use Rattle.alu.proofs.Carries.{decw-overflow}
+use mathlib.Core.Path.{_≡_}
+use Rattle.word.specs.Words.{plus}
+use Rattle.alu.specs.FlagByte.{sign16}
+use Rattle.alu.specs.Arithmetic.{decwOf, differenceOverflow}
 
 plus-requires : tie.Need-plus-requires
 plus-requires c κs = search needs
@@ -12,18 +17,20 @@ one-if-requires c κs = search needs
 sign16-requires : tie.Need-sign16-requires
 sign16-requires c κs = search needs
 
-sign16-requires-2 : tie.Need-sign16-requires-2
-sign16-requires-2 c κs = search needs
-
-difference-overflow-requires : tie.Need-difference-overflow-requires
-difference-overflow-requires c κs = search needs
+one-if-requires-2 : tie.Need-one-if-requires-2
+one-if-requires-2 c κs = search needs
 
 counted-requires : tie.Need-counted-requires
 counted-requires c κs = search needs
 
 returns : tie.Need-returns
 unfolding decwOf
-returns c = rw (c .counted .ensures, c .before .difference-overflow .ensures .0, c .before .before .sign162 .ensures, c .before .before .before .sign16 .ensures, c .before .before .before .before .one-if .ensures .0, c .before .before .before .before .before .plus .ensures)
+returns c =
+    let s = c .before .before .before .before .before in
+    let value : c .before .before .before .before .plus .result ≡ plus (s .args .w) 65535 = c .before .before .before .before .plus .ensures in
+    let v : c .before .one-if2 .result ≡ differenceOverflow (sign16 (s .args .w)) 0 (sign16 (plus (s .args .w) 65535)) =
+    rw (c .before .one-if2 .ensures .0, value) (decw-overflow (s .args .w) (omega arith)) in
+    rw (c .counted .ensures, v, c .before .before .sign16 .ensures, c .before .before .before .one-if .ensures .0, value)
 
 pub decw-spec : {M : Type 1} → statement M
 decw-spec =
@@ -32,7 +39,6 @@ decw-spec =
     plus-requires
     one-if-requires
     sign16-requires
-    sign16-requires-2
-    difference-overflow-requires
+    one-if-requires-2
     counted-requires
     returns)

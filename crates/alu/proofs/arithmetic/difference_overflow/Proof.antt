@@ -1,14 +1,22 @@
-use borrow.Author.Needs.{needs}
 use Rattle.alu.proofs.arithmetic.difference_overflow.Statement.{statement}
 use Rattle.alu.proofs.arithmetic.difference_overflow.Tie as tie
+use mathlib.Core.Path.{refl}
+use lib.Dec.{lit<}
 use Rattle.alu.specs.Arithmetic.{differenceOverflow}
-
-one-if-requires : tie.Need-one-if-requires
-one-if-requires c κs = search needs
+use Rattle.alu.proofs.Carries.{by-bit}
 
 returns : tie.Need-returns
 unfolding differenceOverflow
-returns c = (rw (c .one-if .ensures .0), c .one-if .ensures .1)
+returns c =
+    by-bit (c .args .dst) (c .pre .0)
+    (λ d.
+    by-bit (c .args .src) (c .pre .1 .0)
+    (λ s. by-bit (c .args .r) (c .pre .1 .1) (λ r. rw (r, s, d) (refl, lit< tt)) (λ r. rw (r, s, d) (refl, lit< tt)))
+    (λ s. by-bit (c .args .r) (c .pre .1 .1) (λ r. rw (r, s, d) (refl, lit< tt)) (λ r. rw (r, s, d) (refl, lit< tt))))
+    (λ d.
+    by-bit (c .args .src) (c .pre .1 .0)
+    (λ s. by-bit (c .args .r) (c .pre .1 .1) (λ r. rw (r, s, d) (refl, lit< tt)) (λ r. rw (r, s, d) (refl, lit< tt)))
+    (λ s. by-bit (c .args .r) (c .pre .1 .1) (λ r. rw (r, s, d) (refl, lit< tt)) (λ r. rw (r, s, d) (refl, lit< tt))))
 
 pub difference-overflow-spec : {M : Type 1} → statement M
-difference-overflow-spec = tie.close (tie.spec one-if-requires returns)
+difference-overflow-spec = tie.close (tie.spec returns)

@@ -1,7 +1,12 @@
 use borrow.Author.Needs.{needs}
 use Rattle.alu.proofs.arithmetic.inc.Statement.{statement}
 use Rattle.alu.proofs.arithmetic.inc.Tie as tie
-use Rattle.alu.specs.Arithmetic.{incOf}
+use native.Mathlib.Omega.{arith}
+use Rattle.alu.proofs.Carries.{inc-overflow}
+use mathlib.Core.Path.{_≡_}
+use Prim.Native.Nat.{_+_, _%_}
+use Rattle.alu.specs.FlagByte.{sign8}
+use Rattle.alu.specs.Arithmetic.{incOf, sumOverflow}
 
 wrapping-add-u8-requires : tie.Need-wrapping-add-u8-requires
 wrapping-add-u8-requires c κs = search needs
@@ -9,22 +14,22 @@ wrapping-add-u8-requires c κs = search needs
 one-if-requires : tie.Need-one-if-requires
 one-if-requires c κs = search needs
 
-sum-overflow-requires : tie.Need-sum-overflow-requires
-sum-overflow-requires c κs = search needs
+one-if-requires-2 : tie.Need-one-if-requires-2
+one-if-requires-2 c κs = search needs
 
 counted-requires : tie.Need-counted-requires
 counted-requires c κs = search needs
 
 returns : tie.Need-returns
 unfolding incOf
-returns c = rw (c .counted .ensures, c .before .sum-overflow .ensures .0, c .before .before .one-if .ensures .0, c .before .before .before .wrapping-add-u8 .ensures)
+returns c =
+    let s = c .before .before .before .before in
+    let value : c .before .before .before .wrapping-add-u8 .result ≡ (s .args .a + 1) % 256 = c .before .before .before .wrapping-add-u8 .ensures in
+    let v : c .before .one-if2 .result ≡ sumOverflow (sign8 (s .args .a)) 0 (sign8 ((s .args .a + 1) % 256)) =
+    rw (c .before .one-if2 .ensures .0, value) (inc-overflow (s .args .a) (omega arith)) in
+    rw (c .counted .ensures, v, c .before .before .one-if .ensures .0, value)
 
 pub inc-spec : {M : Type 1} → statement M
 inc-spec =
     tie.close
-    (tie.spec
-    wrapping-add-u8-requires
-    one-if-requires
-    sum-overflow-requires
-    counted-requires
-    returns)
+    (tie.spec wrapping-add-u8-requires one-if-requires one-if-requires-2 counted-requires returns)

@@ -1,7 +1,12 @@
 use borrow.Author.Needs.{needs}
 use Rattle.alu.proofs.arithmetic.incw.Statement.{statement}
 use Rattle.alu.proofs.arithmetic.incw.Tie as tie
-use Rattle.alu.specs.Arithmetic.{incwOf}
+use native.Mathlib.Omega.{arith}
+use Rattle.alu.proofs.Carries.{incw-overflow}
+use mathlib.Core.Path.{_≡_}
+use Rattle.word.specs.Words.{plus}
+use Rattle.alu.specs.FlagByte.{sign16}
+use Rattle.alu.specs.Arithmetic.{incwOf, sumOverflow}
 
 plus-requires : tie.Need-plus-requires
 plus-requires c κs = search needs
@@ -12,18 +17,20 @@ one-if-requires c κs = search needs
 sign16-requires : tie.Need-sign16-requires
 sign16-requires c κs = search needs
 
-sign16-requires-2 : tie.Need-sign16-requires-2
-sign16-requires-2 c κs = search needs
-
-sum-overflow-requires : tie.Need-sum-overflow-requires
-sum-overflow-requires c κs = search needs
+one-if-requires-2 : tie.Need-one-if-requires-2
+one-if-requires-2 c κs = search needs
 
 counted-requires : tie.Need-counted-requires
 counted-requires c κs = search needs
 
 returns : tie.Need-returns
 unfolding incwOf
-returns c = rw (c .counted .ensures, c .before .sum-overflow .ensures .0, c .before .before .sign162 .ensures, c .before .before .before .sign16 .ensures, c .before .before .before .before .one-if .ensures .0, c .before .before .before .before .before .plus .ensures)
+returns c =
+    let s = c .before .before .before .before .before in
+    let value : c .before .before .before .before .plus .result ≡ plus (s .args .w) 1 = c .before .before .before .before .plus .ensures in
+    let v : c .before .one-if2 .result ≡ sumOverflow (sign16 (s .args .w)) 0 (sign16 (plus (s .args .w) 1)) =
+    rw (c .before .one-if2 .ensures .0, value) (incw-overflow (s .args .w) (omega arith)) in
+    rw (c .counted .ensures, v, c .before .before .sign16 .ensures, c .before .before .before .one-if .ensures .0, value)
 
 pub incw-spec : {M : Type 1} → statement M
 incw-spec =
@@ -32,7 +39,6 @@ incw-spec =
     plus-requires
     one-if-requires
     sign16-requires
-    sign16-requires-2
-    sum-overflow-requires
+    one-if-requires-2
     counted-requires
     returns)

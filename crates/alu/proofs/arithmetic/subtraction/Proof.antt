@@ -1,6 +1,13 @@
 use borrow.Author.Needs.{needs}
 use Rattle.alu.proofs.arithmetic.subtraction.Statement.{statement}
 use Rattle.alu.proofs.arithmetic.subtraction.Tie as tie
+use native.Mathlib.Omega.{arith}
+use Rattle.alu.proofs.Carries.{half-of-difference}
+use mathlib.Core.Path.{_≡_}
+use Prim.Native.Nat.{_+_}
+use lib.Dec.{ltb}
+use Rattle.word.specs.Choose.{oneIf}
+use Rattle.word.specs.Fields.{lower}
 use Rattle.alu.specs.Arithmetic.{subtractionOf}
 use Rattle.alu.specs.FlagByte.{packed}
 
@@ -13,14 +20,11 @@ add-one-if c = search needs
 one-if-requires : tie.Need-one-if-requires
 one-if-requires c κs = search needs
 
-add-one-if-2 : tie.Need-add-one-if-2
-add-one-if-2 c = search needs
+half-carry-requires : tie.Need-half-carry-requires
+half-carry-requires c κs = search needs
 
 one-if-requires-2 : tie.Need-one-if-requires-2
 one-if-requires-2 c κs = search needs
-
-one-if-requires-3 : tie.Need-one-if-requires-3
-one-if-requires-3 c κs = search needs
 
 difference-overflow-requires : tie.Need-difference-overflow-requires
 difference-overflow-requires c κs = search needs
@@ -30,7 +34,19 @@ pack-requires c κs = search needs
 
 returns : tie.Need-returns
 unfolding subtractionOf packed
-returns c = rw (c .pack .ensures, c .before .difference-overflow .ensures .0, c .before .before .one-if3 .ensures .0, c .before .before .before .one-if2 .ensures .0, c .before .before .before .before .one-if .ensures .0, c .before .before .before .before .before .difference .ensures)
+returns c =
+    let s = c .before .before .before .before .before .before in
+    let value = c .before .before .before .before .before .difference .ensures in
+    let half : c .before .before .before .half-carry .result ≡ oneIf (ltb (lower (s .args .a)) (lower (s .args .b) + s .args .c)) =
+    rw (c .before .before .before .half-carry .ensures .0, value) (half-of-difference (s .args .a) (s .args .b) (s .args .c) (omega arith) (s .pre)) in
+    rw (
+      c .pack .ensures,
+      c .before .difference-overflow .ensures .0,
+      c .before .before .one-if2 .ensures .0,
+      half,
+      c .before .before .before .before .one-if .ensures .0,
+      value,
+    )
 
 pub subtraction-spec : {M : Type 1} → statement M
 subtraction-spec =
@@ -39,9 +55,8 @@ subtraction-spec =
     difference-requires
     add-one-if
     one-if-requires
-    add-one-if-2
+    half-carry-requires
     one-if-requires-2
-    one-if-requires-3
     difference-overflow-requires
     pack-requires
     returns)

@@ -7,15 +7,15 @@ use Rattle.alu.specs.FlagByte.{packed}
 one-if-requires : tie.Need-one-if-requires
 one-if-requires c κs = search needs
 
-one-if-requires-2 : tie.Need-one-if-requires-2
-one-if-requires-2 c κs = search needs
+rotate-overflow-requires : tie.Need-rotate-overflow-requires
+rotate-overflow-requires c κs = search needs
 
 pack-requires : tie.Need-pack-requires
 pack-requires c κs = search needs
 
 returns : tie.Need-returns
 unfolding rotateFlags packed
-returns c = rw (c .pack .ensures, c .before .one-if2 .ensures .0, c .before .before .one-if .ensures .0)
+returns c = rw (c .pack .ensures, c .before .rotate-overflow .ensures .0, c .before .before .one-if .ensures .0)
 
 pub rotate-flags-spec : {M : Type 1} → statement M
-rotate-flags-spec = tie.close (tie.spec one-if-requires one-if-requires-2 pack-requires returns)
+rotate-flags-spec = tie.close (tie.spec one-if-requires rotate-overflow-requires pack-requires returns)

@@ -1,7 +1,7 @@
 use borrow.Author.Needs.{needs}
 use Rattle.execute.proofs.doing.count_up.Statement.{statement}
 use Rattle.execute.proofs.doing.count_up.Tie as tie
-use Rattle.execute.specs.Doing.{countedUp}
+use Rattle.execute.specs.Doing.{pairCountedUp, countedUp}
 
 read-requires : tie.Need-read-requires
 read-requires c κs = search needs
@@ -12,9 +12,27 @@ wrapping-add-u8-requires c κs = search needs
 write-requires : tie.Need-write-requires
 write-requires c κs = search needs
 
+read-pair-requires : tie.Need-read-pair-requires
+read-pair-requires c κs = search needs
+
+plus-requires : tie.Need-plus-requires
+plus-requires c κs = search needs
+
+write-pair-requires : tie.Need-write-pair-requires
+write-pair-requires c κs = search needs
+
 returns : tie.Need-returns
-unfolding countedUp
-returns c = rw (c .write .ensures, c .before .before .wrapping-add-u8 .ensures, c .before .before .before .read .ensures)
+unfolding pairCountedUp countedUp
+returns c = rw (c .write-pair .ensures, c .before .before .before .plus .ensures, c .before .before .before .before .read-pair .ensures, c .before .before .before .before .before .before .before .write .ensures, c .before .before .before .before .before .before .before .before .before .before .wrapping-add-u8 .ensures, c .before .before .before .before .before .before .before .before .before .before .before .read .ensures)
 
 pub count-up-spec : {M : Type 1} → statement M
-count-up-spec = tie.close (tie.spec read-requires wrapping-add-u8-requires write-requires returns)
+count-up-spec =
+    tie.close
+    (tie.spec
+    read-requires
+    wrapping-add-u8-requires
+    write-requires
+    read-pair-requires
+    plus-requires
+    write-pair-requires
+    returns)

@@ -11,7 +11,7 @@ lay-requires c κs = search needs
 
 returns : tie.Need-returns
 unfolding storedAt
-returns c = rw (c .lay .ensures, c .before .before .write .ensures)
+returns c = rw (c .lay .ensures, c .before .before .before .write .ensures)
 
 pub store-spec : {M : Type 1} → statement M
 store-spec = tie.close (tie.spec write-requires lay-requires returns)

@@ -11,7 +11,7 @@ lay-requires c κs = search needs
 
 returns : tie.Need-returns
 unfolding wordStoredAt
-returns c = rw (c .lay .ensures, c .before .before .write-pair .ensures)
+returns c = rw (c .lay .ensures, c .before .before .before .write-pair .ensures)
 
 pub store-word-spec : {M : Type 1} → statement M
 store-word-spec = tie.close (tie.spec write-pair-requires lay-requires returns)

@@ -1,12 +1,11 @@
 use borrow.Author.Needs.{needs}
 use Rattle.interrupts.proofs.entry.enter.Statement.{statement}
 use Rattle.interrupts.proofs.entry.enter.Tie as tie
-use Rattle.interrupts.specs.Entry.{cleared, enteredOf, acknowledged}
-use mathlib.Core.Path.{ap}
-use denote.Ref.{now}
-use Rattle.machine.specs.State.{heldIn}
-use Rattle.machine.specs.Stack.{Stacked}
-use Rattle.machine.proofs.Whole.{placed-is, pc-is, push-is}
+use Rattle.machine.specs.State.{placed}
+use Rattle.interrupts.proofs.Entries.{entered-is}
+
+pc-requires : tie.Need-pc-requires
+pc-requires c κs = search needs
 
 flags-requires : tie.Need-flags-requires
 flags-requires c κs = search needs
@@ -23,9 +22,6 @@ vector-requires c κs = search needs
 push-requires : tie.Need-push-requires
 push-requires c κs = search needs
 
-keeping-requires : tie.Need-keeping-requires
-keeping-requires c κs = search needs
-
 held-requires : tie.Need-held-requires
 held-requires c κs = search needs
 
@@ -38,39 +34,30 @@ place-requires c κs = search needs
 interrupts-requires : tie.Need-interrupts-requires
 interrupts-requires c κs = search needs
 
-at-pc-requires : tie.Need-at-pc-requires
-at-pc-requires c κs = search needs
+set-pc-requires : tie.Need-set-pc-requires
+set-pc-requires c κs = search needs
+
+same-length : tie.Need-same-length
+same-length c = search needs
 
 returns : tie.Need-returns
-unfolding enteredOf acknowledged
-returns c =
-    let p = push-is (now (c .before .before .before .before .before .before .before .before .before .before .before .before .before .before .before .before .before .before .args .regs)) (c .before .before .before .before .before .before .before .before .before .before .before .before .before .before .before .before .before .before .args .k) _ (rw (c .before .before .before .before .before .before .before .before .before .before .before .before .before .before .before .flags .ensures, c .before .before .before .before .before .before .before .before .before .before .before .before .before .before .high-byte .ensures, c .before .before .before .before .before .before .before .before .before .before .before .before .before .low-byte .ensures) at (c .before .before .before .before .before .before .before .before .before .before .push .ensures)) in
-    rw (
-      c .at-pc .ensures,
-      pc-is _ (c .before .interrupts .ensures),
-      c .before .before .before .place .ensures,
-      c .before .before .before .before .before .cleared .ensures,
-      c .before .before .before .before .before .before .held .ensures,
-      c .before .before .before .before .before .before .before .before .keeping .ensures,
-      placed-is 0xFA (cleared (c .before .before .before .before .before .before .before .before .before .before .before .before .before .before .before .before .before .before .args .n) (heldIn (c .before .before .before .before .before .before .before .before .before .before .push .last .0) 0xFA)) (ap (λ (s : Stacked). s .machine) p),
-      ap (λ (s : Stacked). heldIn (s .machine .regs) 0xFA) p,
-      ap (λ (s : Stacked). s .stores) p,
-      c .before .before .before .before .before .before .before .before .before .before .before .before .vector .ensures,
-    )
+unfolding placed
+returns c = rw (c .set-pc .ensures, c .before .before .before .interrupts .ensures, c .before .before .before .before .before .before .place .ensures, c .before .before .before .before .before .before .before .before .cleared .ensures, c .before .before .before .before .before .before .before .before .before .held .ensures, c .before .before .before .before .before .before .before .before .before .before .before .before .before .before .before .before .before .vector .ensures) (entered-is _ _ _ _ _ (rw (c .before .before .before .before .before .before .before .before .before .before .before .before .before .before .before .before .before .before .low-byte .ensures, c .before .before .before .before .before .before .before .before .before .before .before .before .before .before .before .before .before .before .before .high-byte .ensures, c .before .before .before .before .before .before .before .before .before .before .before .before .before .before .before .before .before .before .before .before .flags .ensures, c .before .before .before .before .before .before .before .before .before .before .before .before .before .before .before .before .before .before .before .before .before .before .before .pc .ensures) at (c .before .before .before .before .before .before .before .before .before .before .before .before .before .push .ensures)))
 
 pub enter-spec : {M : Type 1} → statement M
 enter-spec =
     tie.close
     (tie.spec
+    pc-requires
     flags-requires
     high-byte-requires
     low-byte-requires
     vector-requires
     push-requires
-    keeping-requires
     held-requires
     cleared-requires
     place-requires
     interrupts-requires
-    at-pc-requires
+    set-pc-requires
+    same-length
     returns)
