@@ -25,7 +25,7 @@ same-length c = search needs
 
 returns-2 : tie.Need-returns-2
 unfolding runOf
-returns-2 c = let within : ltb budgetLimit (c .before .before .before .before .before .before .before .before .before .before .before .before .before .args .budget) ≡ false = le-ltb budgetLimit (c .before .before .before .before .before .before .before .before .before .before .before .before .before .args .budget) (c .before .before .before .before .before .before .before .before .before .before .if1 .left) in rw (c .machine-of .ensures, c .before .before .before .before .steps .ensures, c .before .before .before .before .before .before .before .before .lend .ensures, within)
+returns-2 c = let within : ltb budgetLimit (c .before .before .before .before .before .before .before .before .before .before .before .before .before .args .budget) ≡ false = le-ltb budgetLimit (c .before .before .before .before .before .before .before .before .before .before .before .before .before .args .budget) (c .before .before .before .before .before .before .before .before .before .before .if1 .left) in rw (within) (rw (c .before .before .before .before .before .before .before .before .lend .ensures, ← c .machine-of .ensures) at (c .before .before .before .before .steps .ensures))
 
 pub run-spec : {M : Type 1} → statement M
 run-spec =
