@@ -148,7 +148,7 @@ pub fn write_tmr(regs: &mut [u8; 256], rest: &mut Rest, v: u8)
     machine::file::place(regs, 0xF1, kept);
 }
 
-// n cycles of a machine, by division: the long move. It has two callers, so it stays out of line (see `span`).
+// n cycles of a machine, by division: the long move.
 pub fn long_span(regs: &mut [u8; 256], rest: &mut Rest, n: u32) -> Ends
     requires { ⌜ Legal (machineIn (now regs) (now rest)) ⌝ }
     ensures { λ r. ⌜ ranOf (machineIn (now (regs .exit)) (now (rest .exit))) r ≡ spanOf n (machineIn (now (regs .entry)) (now (rest .entry))) ⌝ }
