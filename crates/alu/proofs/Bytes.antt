@@ -1,4 +1,4 @@
--- What an operation answers for bytes is a byte, and the flags that it sets are bits of one; a word's is a word. Assumes nothing.
+-- What an operation answers for bytes is a byte, and the flags that it sets are bits of one; a word's is a word.
 use mathlib.Core.Path.{refl}
 use mathlib.Core.Bool.{Bool, true, false, _&&_, not}
 use Prim.Native.Nat.{ℕ, _+_, _-_, _*_, _/_, _%_, _<_}
@@ -13,7 +13,7 @@ use Rattle.alu.specs.declared.Outcome.{Outcome}
 use Rattle.alu.specs.declared.WordOutcome.{WordOutcome}
 use Rattle.alu.specs.declared.Adjusted.{Adjusted}
 use Rattle.alu.specs.declared.Adjusted.the-variants.{By, NoRow}
-use Rattle.alu.specs.FlagByte.{packed, laid, carry, decimal, half, isZero, sign8, sign16, rcfOf, scfOf, ccfOf}
+use Rattle.alu.specs.FlagByte.{packed, laid, flagC, flagD, flagH, isZero, sign8, sign16, rcfOf, scfOf, ccfOf}
 use Rattle.alu.specs.Arithmetic.{additionOf, addOf, adcOf, differenceOf, subtractionOf, subOf, sbcOf, cpOf, counted, incOf, decOf, incwOf, decwOf, sumOverflow, differenceOverflow}
 use Rattle.alu.specs.Logical.{logicFlags, andOf, orOf, xorOf, comOf, tmOf, tcmOf}
 use Rattle.alu.specs.Rotate.{rotateFlags, rlOf, rlcOf, rrOf, rrcOf, sraOf, swapOf}
@@ -64,7 +64,7 @@ add-byte a b ha hb = addition-byte a b 0 ha hb (lit< tt)
 
 pub adc-byte : (a b f : ℕ) → a < 256 → b < 256 → ByteOutcome (adcOf a b f)
 unfolding adcOf
-adc-byte a b f ha hb = addition-byte a b (carry f) ha hb (omega arith)
+adc-byte a b f ha hb = addition-byte a b (flagC f) ha hb (omega arith)
 
 difference-byte : (a b c : ℕ) → differenceOf a b c < 256
 unfolding differenceOf
@@ -84,7 +84,7 @@ sub-byte a b = subtraction-byte a b 0
 
 pub sbc-byte : (a b f : ℕ) → ByteOutcome (sbcOf a b f)
 unfolding sbcOf
-sbc-byte a b f = subtraction-byte a b (carry f)
+sbc-byte a b f = subtraction-byte a b (flagC f)
 
 pub cp-byte : (a b : ℕ) → ByteFlags (cpOf a b)
 unfolding cpOf
@@ -153,7 +153,7 @@ rl-byte a h = (omega arith, rotate-byte (a / 128) a (a % 128 * 2 + a / 128) (ome
 
 pub rlc-byte : (a f : ℕ) → a < 256 → ByteOutcome (rlcOf a f)
 unfolding rlcOf
-rlc-byte a f h = (omega arith, rotate-byte (a / 128) a (a % 128 * 2 + carry f) (omega arith) (omega arith))
+rlc-byte a f h = (omega arith, rotate-byte (a / 128) a (a % 128 * 2 + flagC f) (omega arith) (omega arith))
 
 pub rr-byte : (a : ℕ) → a < 256 → ByteOutcome (rrOf a)
 unfolding rrOf
@@ -161,7 +161,7 @@ rr-byte a h = (omega arith, rotate-byte (a % 2) a (a / 2 + a % 2 * 128) (omega a
 
 pub rrc-byte : (a f : ℕ) → a < 256 → ByteOutcome (rrcOf a f)
 unfolding rrcOf
-rrc-byte a f h = (omega arith, rotate-byte (a % 2) a (a / 2 + carry f * 128) (omega arith) (omega arith))
+rrc-byte a f h = (omega arith, rotate-byte (a % 2) a (a / 2 + flagC f * 128) (omega arith) (omega arith))
 
 pub sra-byte : (a : ℕ) → a < 256 → ByteOutcome (sraOf a)
 unfolding sraOf
@@ -189,9 +189,9 @@ fitting NoRow t = tt
 pub da-byte : (v f : ℕ) → v < 256 → ByteAdjusted (daOf v f)
 unfolding daOf byRows afterAddition afterSubtraction adjustedBy packed
 da-byte v f h =
-    by-test ByteAdjusted (eqb (decimal f) 0)
-    (λ t. fitting (byRows afterAddition v (carry f) (half f)) (rw (agree3 (λ x c k. fits (byRows afterAddition x c k)) (λ x c k. true) 256 2 2 refl v (carry f) (half f) h (omega arith) (omega arith)) tt))
-    (λ t. fitting (byRows afterSubtraction v (carry f) (half f)) (rw (agree3 (λ x c k. fits (byRows afterSubtraction x c k)) (λ x c k. true) 256 2 2 refl v (carry f) (half f) h (omega arith) (omega arith)) tt))
+    by-test ByteAdjusted (eqb (flagD f) 0)
+    (λ t. fitting (byRows afterAddition v (flagC f) (flagH f)) (rw (agree3 (λ x c k. fits (byRows afterAddition x c k)) (λ x c k. true) 256 2 2 refl v (flagC f) (flagH f) h (omega arith) (omega arith)) tt))
+    (λ t. fitting (byRows afterSubtraction v (flagC f) (flagH f)) (rw (agree3 (λ x c k. fits (byRows afterSubtraction x c k)) (λ x c k. true) 256 2 2 refl v (flagC f) (flagH f) h (omega arith) (omega arith)) tt))
 
 -- the flags laid on a byte
 pub laid-byte : (f : ℕ) (e : Flags) → f < 256 → ByteFlags e → laid f e < 256

@@ -1,4 +1,4 @@
--- H and V by single bits, and by the value. Assumes nothing.
+-- H and V by single bits, and by the value.
 use mathlib.Core.Path.{_≡_, refl, ap, _∙_}
 use mathlib.Core.Bool.{Bool, true, false, not, _&&_}
 use Prim.Native.Nat.{ℕ, _+_, _-_, _/_, _%_, _<_, _≤_}

@@ -1,5 +1,4 @@
 -- What the definitions promise besides: that flags are laid bit by bit, and that no two rows of DA are for the same byte.
--- Assumes nothing.
 use mathlib.Core.Path.{_≡_, refl}
 use mathlib.Core.Bool.{true, _&&_}
 use mathlib.Core.List.{List, [], _∷_}

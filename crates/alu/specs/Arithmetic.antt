@@ -1,5 +1,4 @@
 -- Sums and differences: ADC, ADD, CP, DEC, DECW, INC, INCW, SBC, SUB. `c` is the carry that ADC and SBC take in, 0 for the others.
--- Assumes nothing.
 use Prim.Native.Nat.{ℕ, _+_, _-_, _/_, _%_}
 use mathlib.Core.Bool.{not, _&&_}
 use lib.Dec.{ltb, eqb}
@@ -9,7 +8,7 @@ use Rattle.word.specs.Words.{plus}
 use Rattle.alu.specs.declared.Flags.{Flags}
 use Rattle.alu.specs.declared.Outcome.{Outcome}
 use Rattle.alu.specs.declared.WordOutcome.{WordOutcome}
-use Rattle.alu.specs.FlagByte.{carry, page, unaffected, to, isZero, sign8, sign16}
+use Rattle.alu.specs.FlagByte.{flagC, page, unaffected, to, isZero, sign8, sign16}
 
 -- V of a sum, by the signs of destination, source and result: "if both operands are of the same sign and the result is of the
 -- opposite sign"
@@ -40,7 +39,7 @@ addOf a b = additionOf a b 0
 
 -- C is that of the flags read, from before anything is written
 unfoldable pub adcOf : ℕ → ℕ → ℕ → Outcome
-adcOf a b read = additionOf a b (carry read)
+adcOf a b read = additionOf a b (flagC read)
 
 -- dst - src - c
 unfoldable pub differenceOf : ℕ → ℕ → ℕ → ℕ
@@ -61,7 +60,7 @@ unfoldable pub subOf : ℕ → ℕ → Outcome
 subOf a b = subtractionOf a b 0
 
 unfoldable pub sbcOf : ℕ → ℕ → ℕ → Outcome
-sbcOf a b read = subtractionOf a b (carry read)
+sbcOf a b read = subtractionOf a b (flagC read)
 
 -- CP: dst - src, which is stored nowhere; H and D unaffected
 unfoldable pub cpOf : ℕ → ℕ → Flags

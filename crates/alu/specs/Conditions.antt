@@ -1,10 +1,10 @@
--- The sixteen condition codes (5.4.2), in the order of their binary codes. Assumes nothing.
+-- The sixteen condition codes (5.4.2), in the order of their binary codes.
 use Prim.Native.Nat.{ℕ}
 use mathlib.Core.Bool.{Bool, true, false, not, _&&_, _||_, xor}
 use mathlib.Core.List.{List, [], _∷_}
 use lib.Dec.{eqb}
 use lib.ListN.{getD}
-use Rattle.alu.specs.FlagByte.{carry, zero, sign, overflow}
+use Rattle.alu.specs.FlagByte.{flagC, flagZ, flagS, flagV}
 
 -- whether each code's flag settings are those of C, Z, S and V
 abbrev pub conditions : Bool → Bool → Bool → Bool → List Bool
@@ -46,4 +46,4 @@ conditions c z s v =
 -- condition code cc holds of the FLAGS byte f
 unfoldable pub holdsOf : ℕ → ℕ → Bool
 holdsOf cc f =
-    getD (conditions (eqb (carry f) 1) (eqb (zero f) 1) (eqb (sign f) 1) (eqb (overflow f) 1)) cc false
+    getD (conditions (eqb (flagC f) 1) (eqb (flagZ f) 1) (eqb (flagS f) 1) (eqb (flagV f) 1)) cc false

@@ -1,4 +1,4 @@
--- DA, by the rows of its page. Assumes nothing.
+-- DA, by the rows of its page.
 use Prim.Native.Nat.{ℕ, _+_, _%_}
 use mathlib.Core.Bool.{Bool, _&&_}
 use mathlib.Core.List.{List, [], _∷_}
@@ -8,7 +8,7 @@ use Rattle.word.specs.Fields.{upper, lower}
 use Rattle.alu.specs.declared.Outcome.{Outcome}
 use Rattle.alu.specs.declared.Adjusted.{Adjusted}
 use Rattle.alu.specs.declared.Adjusted.the-variants.{By, NoRow}
-use Rattle.alu.specs.FlagByte.{carry, decimal, half, page, unaffected, undefined, to, isZero, sign8}
+use Rattle.alu.specs.FlagByte.{flagC, flagD, flagH, page, unaffected, undefined, to, isZero, sign8}
 
 -- a row of the page's table
 pub data Row : Type 0 where
@@ -57,4 +57,4 @@ byRows (r ∷ rs) v c h = pick (fits r v c h) (By (byRow r v)) (byRows rs v c h)
 
 -- the rows by D of the flags read: "this flag specifies what type of instruction was last executed" (5.2.5)
 unfoldable pub daOf : ℕ → ℕ → Adjusted
-daOf v read = pick (eqb (decimal read) 0) (byRows afterAddition v (carry read) (half read)) (byRows afterSubtraction v (carry read) (half read))
+daOf v read = pick (eqb (flagD read) 0) (byRows afterAddition v (flagC read) (flagH read)) (byRows afterSubtraction v (flagC read) (flagH read))

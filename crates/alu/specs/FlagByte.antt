@@ -1,5 +1,5 @@
 -- The FLAGS byte (5.2), and what a page of chapter 5 says of each flag. "FLAGS from bit 7 down: C Z S V D H F2 F1." (01). A flag by itself
--- is 0 or 1. Assumes nothing.
+-- is 0 or 1.
 use Prim.Native.Nat.{ℕ, _+_, _*_, _-_, _/_}
 use lib.Dec.{eqb}
 use lib.Bits.{bitAnd, bitOr}
@@ -7,23 +7,23 @@ use Rattle.word.specs.Choose.{oneIf}
 use Rattle.word.specs.Fields.{bitOf}
 use Rattle.alu.specs.declared.Flags.{Flags}
 
-abbrev pub carry : ℕ → ℕ
-carry f = bitOf 7 f
+abbrev pub flagC : ℕ → ℕ
+flagC f = bitOf 7 f
 
-abbrev pub zero : ℕ → ℕ
-zero f = bitOf 6 f
+abbrev pub flagZ : ℕ → ℕ
+flagZ f = bitOf 6 f
 
-abbrev pub sign : ℕ → ℕ
-sign f = bitOf 5 f
+abbrev pub flagS : ℕ → ℕ
+flagS f = bitOf 5 f
 
-abbrev pub overflow : ℕ → ℕ
-overflow f = bitOf 4 f
+abbrev pub flagV : ℕ → ℕ
+flagV f = bitOf 4 f
 
-abbrev pub decimal : ℕ → ℕ
-decimal f = bitOf 3 f
+abbrev pub flagD : ℕ → ℕ
+flagD f = bitOf 3 f
 
-abbrev pub half : ℕ → ℕ
-half f = bitOf 2 f
+abbrev pub flagH : ℕ → ℕ
+flagH f = bitOf 2 f
 
 -- six flags in their places
 unfoldable pub packed : ℕ → ℕ → ℕ → ℕ → ℕ → ℕ → ℕ
@@ -81,4 +81,4 @@ unfoldable pub scfOf : ℕ → ℕ
 scfOf f = laid f (carryTo 1)
 
 unfoldable pub ccfOf : ℕ → ℕ
-ccfOf f = laid f (carryTo (1 - carry f))
+ccfOf f = laid f (carryTo (1 - flagC f))

@@ -1,4 +1,4 @@
--- For the contracts of the code alone: nothing here has to be believed. Assumes nothing.
+-- For the contracts of the code alone: nothing here has to be believed.
 use Prim.Native.Nat.{ℕ, zero, suc, _+_, _*_, _^_}
 use mathlib.Core.Bool.{Bool}
 use lib.Bits.{bitXor}

@@ -1,4 +1,4 @@
--- AND, COM, OR, TCM, TM, XOR: Z and S by the result, V reset, C, H and D unaffected. Assumes nothing.
+-- AND, COM, OR, TCM, TM, XOR: Z and S by the result, V reset, C, H and D unaffected.
 use Prim.Native.Nat.{ℕ, _-_}
 use lib.Bits.{bitAnd, bitOr, bitXor}
 use Rattle.alu.specs.declared.Flags.{Flags}

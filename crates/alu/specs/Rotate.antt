@@ -1,4 +1,4 @@
--- RL, RLC, RR, RRC, SRA, SWAP. Bit 7 of a is a / 128, bit 0 is a % 2. Assumes nothing.
+-- RL, RLC, RR, RRC, SRA, SWAP. Bit 7 of a is a / 128, bit 0 is a % 2.
 use Prim.Native.Nat.{ℕ, _+_, _*_, _/_, _%_}
 use mathlib.Core.Bool.{not}
 use lib.Dec.{eqb}
@@ -6,7 +6,7 @@ use Rattle.word.specs.Choose.{oneIf}
 use Rattle.word.specs.Fields.{upper, lower}
 use Rattle.alu.specs.declared.Flags.{Flags}
 use Rattle.alu.specs.declared.Outcome.{Outcome}
-use Rattle.alu.specs.FlagByte.{carry, page, unaffected, undefined, to, isZero, sign8}
+use Rattle.alu.specs.FlagByte.{flagC, page, unaffected, undefined, to, isZero, sign8}
 
 -- C: the bit rotated out. V: where the sign "of the destination [..] changed during rotation" (RLC's page; the others are cut off). H and D
 -- unaffected.
@@ -22,7 +22,7 @@ rlOf a = rotated (a / 128) a (a % 128 * 2 + a / 128)
 
 -- left one bit through C: the C of the flags read to bit 0, bit 7 to C
 unfoldable pub rlcOf : ℕ → ℕ → Outcome
-rlcOf a read = rotated (a / 128) a (a % 128 * 2 + carry read)
+rlcOf a read = rotated (a / 128) a (a % 128 * 2 + flagC read)
 
 -- right one bit: bit 0 to bit 7 and to C
 unfoldable pub rrOf : ℕ → Outcome
@@ -30,7 +30,7 @@ rrOf a = rotated (a % 2) a (a / 2 + a % 2 * 128)
 
 -- right one bit through C: the C of the flags read to bit 7, bit 0 to C
 unfoldable pub rrcOf : ℕ → ℕ → Outcome
-rrcOf a read = rotated (a % 2) a (a / 2 + carry read * 128)
+rrcOf a read = rotated (a % 2) a (a / 2 + flagC read * 128)
 
 -- right one bit: bit 7 stays and goes to bit 6, bit 0 to C. V: "always reset to 0"
 unfoldable pub sraOf : ℕ → Outcome

@@ -47,7 +47,7 @@ fn addition(a: u8, b: u8, c: u8) -> Outcome
     let value = (wide % 256) as u8;
     let carry = (wide / 256) as u8;
     let half = half_carry(a, b, value);
-    let z = crate::one_if(value == 0);
+    let z = word::bits_if(value == 0, 1);
     let v = sum_overflow(a / 128, b / 128, value / 128);
     let set = crate::pack(carry, z, value / 128, v, 0, half);
     let flags = Flags {
@@ -83,9 +83,9 @@ fn subtraction(a: u8, b: u8, c: u8) -> Outcome
     ensures { λ r. ⌜ r ≡ subtractionOf a b c ⌝ }
 {
     let value = difference(a, b, c);
-    let borrow = crate::one_if((a as u16) < b as u16 + c as u16);
+    let borrow = word::bits_if((a as u16) < b as u16 + c as u16, 1);
     let half = half_carry(a, b, value);
-    let z = crate::one_if(value == 0);
+    let z = word::bits_if(value == 0, 1);
     let v = difference_overflow(a / 128, b / 128, value / 128);
     let set = crate::pack(borrow, z, value / 128, v, 1, half);
     let flags = Flags {
@@ -111,8 +111,8 @@ pub fn cp(a: u8, b: u8) -> Flags
     ensures { λ e. ⌜ e ≡ cpOf a b ⌝ }
 {
     let r = difference(a, b, 0);
-    let borrow = crate::one_if(a < b);
-    let z = crate::one_if(r == 0);
+    let borrow = word::bits_if(a < b, 1);
+    let z = word::bits_if(r == 0, 1);
     let v = difference_overflow(a / 128, b / 128, r / 128);
     let set = crate::pack(borrow, z, r / 128, v, 0, 0);
     Flags {
@@ -141,8 +141,8 @@ pub fn inc(a: u8) -> Outcome
     ensures { λ r. ⌜ r ≡ incOf a ⌝ }
 {
     let value = std::num::wrapping_add_u8(a, 1);
-    let z = crate::one_if(value == 0);
-    let v = crate::one_if(value == 128);
+    let z = word::bits_if(value == 0, 1);
+    let v = word::bits_if(value == 128, 1);
     let flags = counted(z, value / 128, v);
     Outcome { value, flags }
 }
@@ -151,8 +151,8 @@ pub fn dec(a: u8) -> Outcome
     ensures { λ r. ⌜ r ≡ decOf a ⌝ }
 {
     let value = std::num::wrapping_add_u8(a, 255);
-    let z = crate::one_if(value == 0);
-    let v = crate::one_if(value == 127);
+    let z = word::bits_if(value == 0, 1);
+    let v = word::bits_if(value == 127, 1);
     let flags = counted(z, value / 128, v);
     Outcome { value, flags }
 }
@@ -168,9 +168,9 @@ pub fn incw(w: u16) -> WordOutcome
     ensures { λ r. ⌜ r ≡ incwOf w ⌝ }
 {
     let value = word::plus(w, 1);
-    let z = crate::one_if(value == 0);
+    let z = word::bits_if(value == 0, 1);
     let s = sign16(value);
-    let v = crate::one_if(value == 32768);
+    let v = word::bits_if(value == 32768, 1);
     let flags = counted(z, s, v);
     WordOutcome { value, flags }
 }
@@ -179,9 +179,9 @@ pub fn decw(w: u16) -> WordOutcome
     ensures { λ r. ⌜ r ≡ decwOf w ⌝ }
 {
     let value = word::plus(w, 65535);
-    let z = crate::one_if(value == 0);
+    let z = word::bits_if(value == 0, 1);
     let s = sign16(value);
-    let v = crate::one_if(value == 32767);
+    let v = word::bits_if(value == 32767, 1);
     let flags = counted(z, s, v);
     WordOutcome { value, flags }
 }

@@ -12,7 +12,7 @@ fn by(v: u8, add: u8, after: u8) -> Adjusted
     ensures { λ r. ⌜ r ≡ Adjusted.By (adjustedBy v add after) ⌝ }
 {
     let value = std::num::wrapping_add_u8(v, add);
-    let z = crate::one_if(value == 0);
+    let z = word::bits_if(value == 0, 1);
     let set = crate::pack(after, z, value / 128, 0, 0, 0);
     let flags = Flags {
         affected: Flags::CZS,

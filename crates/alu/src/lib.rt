@@ -4,7 +4,6 @@
 // differ only where the destination is FLAGS itself.
 ghost use mathlib.Core.Path.{_≡_};
 ghost use Prim.Native.Nat.{_<_};
-ghost use Rattle.word.specs.Choose.{oneIf};
 ghost use Rattle.alu.specs.FlagByte.{packed, laid, isZero, carryTo, rcfOf, scfOf, ccfOf};
 
 pub mod arithmetic;
@@ -57,13 +56,6 @@ pub fn lay(f: u8, e: Flags) -> u8
     ensures { λ r. ⌜ r ≡ laid f e ⌝ }
 {
     (f & !e.affected) | e.set
-}
-
-fn one_if(b: bool) -> u8
-    ensures is { λ r. ⌜ r ≡ oneIf b ⌝ }
-    ensures bit { λ r. ⌜ r < 2 ⌝ }
-{
-    if b { 1 } else { 0 }
 }
 
 // Six flags in their places.

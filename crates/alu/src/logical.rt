@@ -7,7 +7,7 @@ ghost use Rattle.alu.specs.Logical.{logicFlags, andOf, orOf, xorOf, comO
 fn logic_flags(r: u8) -> Flags
     ensures { λ e. ⌜ e ≡ logicFlags r ⌝ }
 {
-    let z = crate::one_if(r == 0);
+    let z = word::bits_if(r == 0, 1);
     let set = crate::pack(0, z, r / 128, 0, 0, 0);
     Flags {
         affected: Flags::ZSV,

@@ -23,7 +23,7 @@ fn rotate_flags(out: u8, a: u8, r: u8) -> Flags
     requires { ⌜ out < 2 ⌝ }
     ensures { λ e. ⌜ e ≡ rotateFlags out a r ⌝ }
 {
-    let z = crate::one_if(r == 0);
+    let z = word::bits_if(r == 0, 1);
     let v = rotate_overflow(a / 128, r / 128);
     let set = crate::pack(out, z, r / 128, v, 0, 0);
     Flags {
@@ -68,7 +68,7 @@ pub fn sra(a: u8) -> Outcome
     ensures { λ r. ⌜ r ≡ sraOf a ⌝ }
 {
     let value = a / 2 + a / 128 * 128;
-    let z = crate::one_if(value == 0);
+    let z = word::bits_if(value == 0, 1);
     let set = crate::pack(a % 2, z, value / 128, 0, 0, 0);
     let flags = Flags {
         affected: Flags::CZSV,
@@ -81,7 +81,7 @@ pub fn swap(a: u8) -> Outcome
     ensures { λ r. ⌜ r ≡ swapOf a ⌝ }
 {
     let value = a % 16 * 16 + a / 16;
-    let z = crate::one_if(value == 0);
+    let z = word::bits_if(value == 0, 1);
     let set = crate::pack(0, z, value / 128, 0, 0, 0);
     let flags = Flags {
         affected: Flags::ZS,

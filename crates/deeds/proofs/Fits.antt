@@ -1,5 +1,5 @@
 -- Of a legal machine, bytes for pins and memories and an instruction's bytes, what an instruction is to do holds addresses, bytes and words
--- that fit. Assumes nothing.
+-- that fit.
 use mathlib.Core.List.{List}
 use Prim.Native.Nat.{ℕ, _<_}
 use native.Mathlib.Omega.{arith}

@@ -1,6 +1,5 @@
 -- Operands: their addresses and values, by the address modes of chapter 4 and the boxes of chapter 5. All is read from the machine as it
 -- stands before anything is written: "Operand addresses and source values are taken before anything is written, with RP as it stood" (01).
--- Assumes nothing.
 use Prim.Native.Nat.{ℕ}
 use Rattle.word.specs.Fields.{upper, lower, wordOf}
 use Rattle.opcodes.specs.declared.One.{One}

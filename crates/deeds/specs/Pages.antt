@@ -1,6 +1,6 @@
 -- What each page of chapter 5 has an instruction do, in the pages' order, with everything read that it needs: a deed. What is written
 -- then, and in which order, is the room `execute`'s. Throughout, m is the machine before the instruction, but with its program counter
--- already at the next one; p are the pins, i the instruction's bytes. Assumes nothing.
+-- already at the next one; p are the pins, i the instruction's bytes.
 use mathlib.Core.Bool.{Bool, true, false, not}
 use mathlib.Core.List.{List}
 use Prim.Native.Nat.{ℕ, _+_, _%_}

@@ -1,5 +1,5 @@
 -- The results of the pages that read and store alike, of values: dst is what the destination reads. `read` is the FLAGS byte from before
--- anything is written. Assumes nothing.
+-- anything is written.
 use Prim.Native.Nat.{ℕ}
 use Rattle.alu.specs.Arithmetic.{addOf, adcOf, subOf, sbcOf, cpOf, incOf, decOf, incwOf, decwOf}
 use Rattle.alu.specs.Logical.{andOf, orOf, xorOf, comOf, tmOf, tcmOf}

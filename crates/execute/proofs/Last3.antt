@@ -1,4 +1,4 @@
--- An instruction leaves the last pins of Port 3 as they are. Assumes nothing.
+-- An instruction leaves the last pins of Port 3 as they are.
 use mathlib.Core.Path.{_≡_, refl, _∙_}
 use mathlib.Core.Bool.{Bool}
 use mathlib.Core.List.{List}

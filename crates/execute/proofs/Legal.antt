@@ -1,4 +1,4 @@
--- A legal machine stays legal through every instruction, and what is to be stored in data memory are bytes. Assumes nothing.
+-- A legal machine stays legal through every instruction, and what is to be stored in data memory are bytes.
 use mathlib.Core.Bool.{Bool, true, false}
 use mathlib.Core.List.{List}
 use Prim.Native.Nat.{ℕ, _+_, _%_, _<_}

@@ -1,4 +1,4 @@
--- What the order asks of an instruction beyond the contracts: when it is refused and what then changes, and what it costs. Assumes nothing.
+-- What the order asks of an instruction beyond the contracts: when it is refused and what then changes, and what it costs.
 use mathlib.Core.Path.{_≡_, ap}
 use mathlib.Core.List.{List}
 use Prim.Native.Nat.{ℕ, _≤_}

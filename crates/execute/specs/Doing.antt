@@ -1,4 +1,4 @@
--- What is written when a deed is done, and in which order (01 "Instructions"). Assumes nothing.
+-- What is written when a deed is done, and in which order (01 "Instructions").
 use mathlib.Core.Bool.{Bool, true}
 use Prim.Native.Nat.{ℕ, _+_, _%_}
 use Rattle.word.specs.Choose.{pick, bitsIf}

@@ -1,9 +1,10 @@
--- One instruction, from the program counter on (01 "Instructions"). Assumes nothing.
+-- One instruction, from the program counter on (01 "Instructions").
 use mathlib.Core.List.{List}
 use Prim.Native.Nat.{ℕ}
 use Rattle.word.specs.Words.{plus}
 use Rattle.opcodes.specs.Map.{entryOf}
-use Rattle.opcodes.specs.Instruction.{lengthOf, opcodeUndefined}
+use Rattle.numbers.specs.Numbers.{refusedOpcode}
+use Rattle.opcodes.specs.Instruction.{lengthOf}
 use Rattle.opcodes.specs.Cycles.{cyclesOf}
 use Rattle.opcodes.specs.declared.Entry.{Entry}
 use Rattle.opcodes.specs.declared.Entry.the-variants.{Blank, Of}
@@ -38,7 +39,7 @@ codeAt image pc =
 
 -- "opcode undefined": 5, "nothing changed"
 abbrev pub refusedOf : Machine → Execution
-refusedOf m = record { refusal = opcodeUndefined; cycles = 0; stores = Nothing; machine = m }
+refusedOf m = record { refusal = refusedOpcode; cycles = 0; stores = Nothing; machine = m }
 
 -- the machine at the next instruction
 abbrev pub nextOf : Machine → Code → Machine

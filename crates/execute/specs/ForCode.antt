@@ -1,5 +1,4 @@
 -- For the contracts of the code alone, which stores to data memory where the definitions say what is to be stored: nothing here has to be believed.
--- Assumes nothing.
 use mathlib.Core.List.{List}
 use Prim.Native.Nat.{ℕ}
 use lib.ListN.{getD}

@@ -4,94 +4,87 @@ use alu::Outcome;
 use alu::WordOutcome;
 use lent::Rest;
 use machine::Bytes;
+use machine::File;
 use machine::Pins;
+use machine::names;
 ghost use mathlib.Core.Path.{_≡_};
-ghost use Prim.Native.Nat.{_≤_};
-ghost use Rattle.word.specs.Choose.{bitsIf};
 ghost use Rattle.machine.specs.State.{withPc};
 ghost use Rattle.lent.specs.View.{machineIn, left, stacked};
 ghost use Rattle.deeds.specs.Modes.{flagsOf};
 ghost use Rattle.execute.specs.Doing.{flagged, storedAt, wordStoredAt, countedUp, pairCountedUp, interruptsTo, called};
 
 // FLAGS, as they stand.
-pub fn flags(regs: &[u8; 256], rest: &Rest) -> u8
+pub fn flags(regs: &File, rest: &Rest) -> u8
     ensures { λ r. ⌜ r ≡ flagsOf (machineIn (now (regs .entry)) (now (rest .entry))) ⌝ }
 {
-    machine::file::held(regs, 0xFC)
+    machine::file::held(regs, names::FLAGS)
 }
 
 // The affected flags, on the FLAGS byte that is in place by now.
-pub fn lay(regs: &mut [u8; 256], rest: &Rest, e: Flags)
+pub fn lay(regs: &mut File, rest: &Rest, e: Flags)
     ensures { λ _. ⌜ machineIn (now (regs .exit)) (now (rest .entry)) ≡ flagged (machineIn (now (regs .entry)) (now (rest .entry))) e ⌝ }
 {
     let f = flags(regs, rest);
     let laid = alu::lay(f, e);
-    machine::file::place(regs, 0xFC, laid);
+    machine::file::place(regs, names::FLAGS, laid);
 }
 
 // A byte stored, and then the flags.
-pub fn store(regs: &mut [u8; 256], rest: &mut Rest, dst: u8, o: Outcome)
+pub fn store(regs: &mut File, rest: &mut Rest, dst: u8, o: Outcome)
     ensures { λ _. ⌜ machineIn (now (regs .exit)) (now (rest .exit)) ≡ storedAt (machineIn (now (regs .entry)) (now (rest .entry))) dst o ⌝ }
 {
     let e = o.flags;
-    lent::registers::write(regs, rest, dst, o.value);
+    registers::write(regs, rest, dst, o.value);
     lay(regs, rest, e);
 }
 
 // A word stored, and then the flags.
-pub fn store_word(regs: &mut [u8; 256], rest: &mut Rest, dst: u8, o: WordOutcome)
+pub fn store_word(regs: &mut File, rest: &mut Rest, dst: u8, o: WordOutcome)
     ensures { λ _. ⌜ machineIn (now (regs .exit)) (now (rest .exit)) ≡ wordStoredAt (machineIn (now (regs .entry)) (now (rest .entry))) dst o ⌝ }
 {
     let affected = o.flags;
-    lent::addresses::write_pair(regs, rest, dst, o.value);
+    registers::addresses::write_pair(regs, rest, dst, o.value);
     lay(regs, rest, affected);
 }
 
 // 1 added to what the register at r, and then to what the pair at rr reads by now.
-pub fn count_up(regs: &mut [u8; 256], rest: &mut Rest, pins: Pins, r: u8, rr: u8)
+pub fn count_up(regs: &mut File, rest: &mut Rest, pins: Pins, r: u8, rr: u8)
     ensures { λ _. ⌜ machineIn (now (regs .exit)) (now (rest .exit)) ≡ pairCountedUp pins (countedUp pins (machineIn (now (regs .entry)) (now (rest .entry))) r) rr ⌝ }
 {
-    let v = lent::registers::read(regs, rest, pins, r);
+    let v = registers::read(regs, rest, pins, r);
     let more = std::num::wrapping_add_u8(v, 1);
-    lent::registers::write(regs, rest, r, more);
-    let w = lent::addresses::read_pair(regs, rest, pins, rr);
+    registers::write(regs, rest, r, more);
+    let w = registers::addresses::read_pair(regs, rest, pins, rr);
     let further = word::plus(w, 1);
-    lent::addresses::write_pair(regs, rest, rr, further);
+    registers::addresses::write_pair(regs, rest, rr, further);
 }
 
 // CALL: the address of the next instruction pushed.
-pub fn call(regs: &mut [u8; 256], rest: &mut Rest, mem: &mut [u8], to: u16)
+pub fn call(regs: &mut File, rest: &mut Rest, mem: &mut [u8], to: u16)
     ensures { λ _. ⌜ left (machineIn (now (regs .exit)) (now (rest .exit))) (now (mem .exit)) ≡ stacked (machineIn (now (regs .entry)) (now (rest .entry)) .kind) (now (mem .entry)) (called (machineIn (now (regs .entry)) (now (rest .entry))) to) ⌝ }
 {
     let back = lent::pc(rest);
     let hi = word::high_byte(back);
     let lo = word::low_byte(back);
     let b = Bytes::Two(hi, lo);
-    lent::stack::push(regs, rest, mem, b);
+    registers::stack::push(regs, rest, mem, b);
     lent::set_pc(regs, rest, to);
 }
 
-// Bit 7, set or clear.
-fn top_bit(on: bool) -> u8
-    ensures { λ r. ⌜ (r ≡ bitsIf on 0x80) × (r ≤ 128) ⌝ }
-{
-    if on { 0x80 } else { 0 }
-}
-
 // Bit 7 of IMR.
-pub fn interrupts(regs: &mut [u8; 256], rest: &Rest, on: bool)
+pub fn interrupts(regs: &mut File, rest: &Rest, on: bool)
     ensures { λ _. ⌜ machineIn (now (regs .exit)) (now (rest .entry)) ≡ interruptsTo (machineIn (now (regs .entry)) (now (rest .entry))) on ⌝ }
 {
-    let imr = machine::file::held(regs, 0xFB);
-    let bit = top_bit(on);
-    machine::file::place(regs, 0xFB, imr % 128 + bit);
+    let imr = machine::file::held(regs, names::IMR);
+    let bit = word::bits_if(on, 0x80);
+    machine::file::place(regs, names::IMR, imr % 128 + bit);
 }
 
 // The cycles of a refused instruction; every other has some.
 pub const REFUSED: u32 = 0;
 
 // Refused: the machine is back at pc, and nothing else was changed.
-pub fn refused(regs: &[u8; 256], rest: &mut Rest, pc: u16) -> u32
+pub fn refused(regs: &File, rest: &mut Rest, pc: u16) -> u32
     ensures { λ r. ⌜ r ≡ 0 ⌝ }
     ensures back { λ _. ⌜ machineIn (now (regs .entry)) (now (rest .exit)) ≡ withPc (machineIn (now (regs .entry)) (now (rest .entry))) pc ⌝ }
 {

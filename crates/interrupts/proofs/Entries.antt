@@ -1,4 +1,4 @@
--- A request entered, from what the push left. Assumes nothing.
+-- A request entered, from what the push left.
 use mathlib.Core.Path.{_≡_}
 use mathlib.Core.Bool.{false}
 use mathlib.Core.List.{List}

@@ -1,4 +1,4 @@
--- What edges latch keeps IRQ's bits 6 and 7 clear. Assumes nothing.
+-- What edges latch keeps IRQ's bits 6 and 7 clear.
 use mathlib.Core.Bool.{Bool}
 use Prim.Native.Nat.{ℕ, _<_}
 use native.Mathlib.Omega.{arith}

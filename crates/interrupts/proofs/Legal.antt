@@ -1,4 +1,4 @@
--- A legal machine stays legal through compared pins and a grant. Assumes nothing.
+-- A legal machine stays legal through compared pins and a grant.
 use mathlib.Core.Path.{_≡_}
 use mathlib.Core.Bool.{false}
 use mathlib.Core.List.{List}

@@ -1,4 +1,4 @@
--- Laws of the order of priorities. Assumes nothing.
+-- Laws of the order of priorities.
 use mathlib.Core.Path.{_≡_, refl, ap, _∙_, subst}
 use mathlib.Core.Bool.{Bool, true, false, _&&_}
 use mathlib.Core.List.{List, [], _∷_, _++_}

@@ -1,4 +1,4 @@
--- Where no pin fell, comparing the pins changes the last pins alone. Assumes nothing.
+-- Where no pin fell, comparing the pins changes the last pins alone.
 use mathlib.Core.Path.{_≡_, refl, ap₂, sym, _∙_}
 use mathlib.Core.Bool.{Bool, true, false, not, _&&_, _||_}
 use Prim.Native.Nat.{ℕ, zero, suc, _-_, _/_, _%_, _<_}

@@ -1,4 +1,4 @@
--- Falling edges of the Port 3 pins (01 "One step"; 004, 10.2.1 and 11.5). Assumes nothing.
+-- Falling edges of the Port 3 pins (01 "One step"; 004, 10.2.1 and 11.5).
 use mathlib.Core.Bool.{Bool, not, _&&_}
 use Prim.Native.Nat.{ℕ}
 use Rattle.word.specs.Choose.{pick}

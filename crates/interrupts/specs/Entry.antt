@@ -1,4 +1,4 @@
--- The grant of a request (01 "One step"; 004, 10.3, 10.4.2 and 10.6). Assumes nothing.
+-- The grant of a request (01 "One step"; 004, 10.3, 10.4.2 and 10.6).
 use mathlib.Core.Bool.{false}
 use mathlib.Core.List.{List}
 use Prim.Native.Nat.{ℕ, _+_, _-_, _*_, _^_}

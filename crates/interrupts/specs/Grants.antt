@@ -1,4 +1,4 @@
--- Which request is granted (01 "One step"; 004, 10.3 and 10.4; 002, R249 to R251). Assumes nothing.
+-- Which request is granted (01 "One step"; 004, 10.3 and 10.4; 002, R249 to R251).
 use mathlib.Core.List.{List, [], _∷_, _++_}
 use Prim.Native.Nat.{ℕ, _+_, _*_}
 use lib.Bits.{bitAnd}

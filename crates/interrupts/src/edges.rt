@@ -1,9 +1,12 @@
 // Falling edges of the Port 3 pins. `requests` looks ahead and stores nothing, `compare` stores.
 use lent::Rest;
+use machine::File;
+use machine::names;
 use timers::Lines;
 use timers::Spanned;
 ghost use mathlib.Core.Path.{_≡_};
 ghost use Prim.Native.Nat.{_<_};
+ghost use Rattle.machine.specs.Names.{IRQ};
 ghost use Rattle.machine.specs.State.{held};
 ghost use Rattle.machine.specs.Legal.{Legal};
 ghost use Rattle.lent.specs.View.{machineIn};
@@ -54,13 +57,13 @@ fn latched_by(last: u8, given: u8, irq: u8) -> u8
 }
 
 // What the edges move.
-fn moved(regs: &[u8; 256], rest: &Rest, given: u8) -> Spanned
+fn moved(regs: &File, rest: &Rest, given: u8) -> Spanned
     requires { ⌜ Legal (machineIn (now regs) (now rest)) ⌝ }
     ensures { λ r. ⌜ r ≡ movedByEdges (machineIn (now (regs .entry)) (now (rest .entry))) given ⌝ }
 {
     let last = lent::last3(rest);
-    let c = lent::clock::control_of(regs, rest);
-    let m = lent::clock::moving_of(regs, rest);
+    let c = clock::control_of(regs, rest);
+    let m = clock::moving_of(regs, rest);
     let old = m.lines;
     let irq = latched_by(last, given, old.irq);
     let p31 = fell(1, last, given);
@@ -82,14 +85,14 @@ fn moved(regs: &[u8; 256], rest: &Rest, given: u8) -> Spanned
 }
 
 // IRQ as it stands when the pins have been compared.
-pub fn requests(regs: &[u8; 256], rest: &Rest, given: u8) -> u8
+pub fn requests(regs: &File, rest: &Rest, given: u8) -> u8
     requires { ⌜ Legal (machineIn (now regs) (now rest)) ⌝ }
-    ensures { λ r. ⌜ r ≡ held (comparedOf (machineIn (now (regs .entry)) (now (rest .entry))) given .machine) 0xFA ⌝ }
+    ensures { λ r. ⌜ r ≡ held (comparedOf (machineIn (now (regs .entry)) (now (rest .entry))) given .machine) IRQ ⌝ }
 {
     let last = lent::last3(rest);
     let any = any_fell(last, given);
     if !any {
-        return machine::file::held(regs, 0xFA);
+        return machine::file::held(regs, names::IRQ);
     }
     let x = moved(regs, rest, given);
     let now = x.now;
@@ -98,7 +101,7 @@ pub fn requests(regs: &[u8; 256], rest: &Rest, given: u8) -> u8
 }
 
 // The pins compared, and T1's ends by that.
-pub fn compare(regs: &mut [u8; 256], rest: &mut Rest, given: u8) -> u32
+pub fn compare(regs: &mut File, rest: &mut Rest, given: u8) -> u32
     requires { ⌜ Legal (machineIn (now regs) (now rest)) ⌝ }
     ensures { λ r. ⌜ comparison (machineIn (now (regs .exit)) (now (rest .exit))) r ≡ comparedOf (machineIn (now (regs .entry)) (now (rest .entry))) given ⌝ }
 {
@@ -111,7 +114,7 @@ pub fn compare(regs: &mut [u8; 256], rest: &mut Rest, given: u8) -> u32
     let x = moved(regs, rest, given);
     let now = x.now;
     let ends1 = x.ends1;
-    lent::clock::move_to(regs, rest, now);
+    clock::move_to(regs, rest, now);
     lent::set_last3(regs, rest, given);
     ends1
 }

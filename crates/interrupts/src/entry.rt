@@ -1,6 +1,8 @@
 // The grant of a request.
 use lent::Rest;
 use machine::Bytes;
+use machine::File;
+use machine::names;
 ghost use mathlib.Core.Path.{_≡_};
 ghost use Prim.Native.Nat.{_<_};
 ghost use Rattle.lent.specs.View.{coreIn, machineIn, left, stacked};
@@ -26,7 +28,7 @@ fn vector(image: &[u8], n: u8) -> u16
 }
 
 // Request n entered: PC and FLAGS are pushed, then the request and IMR's bit 7 are cleared, also in bytes just pushed there.
-pub fn enter(regs: &mut [u8; 256], rest: &mut Rest, mem: &mut [u8], image: &[u8], n: u8)
+pub fn enter(regs: &mut File, rest: &mut Rest, mem: &mut [u8], image: &[u8], n: u8)
     requires { ⌜ n < 6 ⌝ }
     ensures { λ _. ⌜ left (machineIn (now (regs .exit)) (now (rest .exit))) (now (mem .exit)) ≡ stacked (coreIn (now (rest .entry)) .kind) (now (mem .entry)) (enteredOf (now (image .entry)) (machineIn (now (regs .entry)) (now (rest .entry))) n) ⌝ }
 {
@@ -36,10 +38,10 @@ pub fn enter(regs: &mut [u8; 256], rest: &mut Rest, mem: &mut [u8], image: &[u8]
     let lo = word::low_byte(pc);
     let to = vector(image, n);
     let b = Bytes::Three(flags, hi, lo);
-    lent::stack::push(regs, rest, mem, b);
-    let irq = machine::file::held(regs, 0xFA);
+    registers::stack::push(regs, rest, mem, b);
+    let irq = machine::file::held(regs, names::IRQ);
     let fewer = cleared(n, irq);
-    machine::file::place(regs, 0xFA, fewer);
+    machine::file::place(regs, names::IRQ, fewer);
     execute::doing::interrupts(regs, rest, false);
     lent::set_pc(regs, rest, to);
 }

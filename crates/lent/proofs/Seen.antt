@@ -1,4 +1,4 @@
--- What is put into a place of the rest is seen there, and the others stay. Only these laws look into its layout. Assumes nothing.
+-- What is put into a place of the rest is seen there, and the others stay. Only these laws look into its layout.
 use mathlib.Core.Path.{_≡_, refl}
 use mathlib.Core.Bool.{Bool, true, false}
 use mathlib.Core.List.{List, [], _∷_}

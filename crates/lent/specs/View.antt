@@ -1,17 +1,15 @@
 -- Which machine the lent parts are, and what is left of them when a function ends: for the contracts of the code alone, nothing here has to be believed. A request that keeps something in
--- another place changes what the view means, and no definition. Assumes nothing.
+-- another place changes what the view means, and no definition.
 use mathlib.Core.List.{List}
 use Prim.Native.Nat.{ℕ, _+_, _%_}
 use lib.Dec.{eqb}
 use lib.ListN.{getD}
 use Rattle.timers.specs.declared.Timer.{Timer}
 use Rattle.machine.specs.State.{whole}
-use Rattle.machine.specs.Clock.{Ran}
 use Rattle.machine.specs.Memory.{storedIn}
 use Rattle.machine.specs.Stack.{Stacked}
 use Rattle.machine.specs.declared.Machine.{Machine}
 use Rattle.machine.specs.declared.Core.{Core}
-use Rattle.lent.specs.declared.clock.Ends.{Ends}
 
 -- a count in progress, its prescaler's place and the counter's after it
 abbrev pub timerIn : List ℕ → ℕ → Timer
@@ -46,7 +44,3 @@ left m mem = record { machine = m; memory = mem }
 -- what is to be stored in data memory, stored
 abbrev pub stacked : ℕ → List ℕ → Stacked → Left
 stacked kind mem s = record { machine = s .machine; memory = storedIn kind mem (s .stores) }
-
--- a machine after some cycles, with each timer's ends
-abbrev pub ranOf : Machine → Ends → Ran
-ranOf m e = record { machine = m; ends0 = e .ends0; ends1 = e .ends1 }

@@ -1,19 +1,16 @@
 // The machine lent. A `Machine` goes by value at the edges; below `step` its register file is lent, and beside it its other numbers, the
 // rest, as places of their own: a call takes two addresses, a store is one instruction, and what doesn't move isn't carried about. `regs, rest`
 // in a call are the machine `machineIn file rest` (specs/View.antt), and every contract speaks of that.
-pub mod addresses;
-pub mod clock;
 pub mod memory;
-pub mod registers;
-pub mod stack;
 
+use machine::File;
 use machine::Machine;
 use timers::Timer;
 ghost use mathlib.Core.Path.{_≡_};
 ghost use Prim.Native.Nat.{_<_};
 ghost use lib.ListN.{length};
-ghost use Rattle.word.specs.Choose.{pick};
 ghost use Rattle.machine.specs.State.{withPc, withLast3, coreOf};
+ghost use Rattle.machine.specs.Clock.{countingAt};
 ghost use Rattle.lent.specs.View.{timerIn, coreIn, machineIn};
 
 // All of a machine but its register file, by place.
@@ -23,9 +20,9 @@ const PC: usize = 0;
 
 const DIVIDER: usize = 1;
 
-const T0: usize = 2;
+const COUNT0: usize = 2;
 
-const T1: usize = 4;
+const COUNT1: usize = 4;
 
 const TOUT: usize = 6;
 
@@ -47,19 +44,13 @@ fn long(rest: &Rest)
     sized(all);
 }
 
-fn one_if(b: bool) -> u32
-    ensures { λ r. ⌜ r ≡ pick b 1 0 ⌝ }
-{
-    if b { 1 } else { 0 }
-}
-
 // The rest of a machine, to be lent.
 pub fn lend(m: Machine) -> Rest
     ensures { λ r. ⌜ coreIn r ≡ coreOf m ⌝ }
 {
     let t0 = m.t0;
     let t1 = m.t1;
-    let tout = one_if(m.tout);
+    let tout = word::bits_if(m.tout, 1);
     [
         m.pc as u32,
         m.divider,
@@ -67,7 +58,7 @@ pub fn lend(m: Machine) -> Rest
         t0.counter,
         t1.prescaler,
         t1.counter,
-        tout,
+        tout as u32,
         m.last3 as u32,
         m.kind as u32,
         m.cost as u32,
@@ -75,12 +66,13 @@ pub fn lend(m: Machine) -> Rest
 }
 
 // The machine that was lent.
-pub fn machine_of(regs: [u8; 256], rest: &Rest) -> Machine
+pub fn machine_of(regs: File, rest: &Rest) -> Machine
     ensures { λ r. ⌜ r ≡ machineIn regs (now (rest .entry)) ⌝ }
 {
     let pc = pc(rest);
-    let t0 = timer(rest, T0);
-    let t1 = timer(rest, T1);
+    let divider = divider(rest);
+    let t0 = t0(rest);
+    let t1 = t1(rest);
     let last3 = last3(rest);
     let tout = tout(rest);
     let kind = kind(rest);
@@ -88,7 +80,7 @@ pub fn machine_of(regs: [u8; 256], rest: &Rest) -> Machine
     Machine {
         regs,
         pc,
-        divider: rest[DIVIDER],
+        divider,
         t0,
         t1,
         last3,
@@ -106,14 +98,21 @@ pub fn pc(rest: &Rest) -> u16
 }
 
 // The machine at another program counter.
-pub fn set_pc(regs: &[u8; 256], rest: &mut Rest, pc: u16)
+pub fn set_pc(regs: &File, rest: &mut Rest, pc: u16)
     ensures { λ _. ⌜ machineIn (now (regs .entry)) (now (rest .exit)) ≡ withPc (machineIn (now (regs .entry)) (now (rest .entry))) pc ⌝ }
 {
     long(rest);
     rest[PC] = pc as u32;
 }
 
-// A timer's count in progress, T0's or T1's by where it stands.
+// The divider.
+pub fn divider(rest: &Rest) -> u32
+    ensures { λ r. ⌜ r ≡ coreIn (now (rest .entry)) .divider ⌝ }
+{
+    rest[DIVIDER]
+}
+
+// A timer's count in progress, by where it stands.
 fn timer(rest: &Rest, at: usize) -> Timer
     requires { ⌜ at < 9 ⌝ }
     ensures { λ r. ⌜ r ≡ timerIn (now (rest .entry)) at ⌝ }
@@ -124,11 +123,46 @@ fn timer(rest: &Rest, at: usize) -> Timer
     }
 }
 
+// T0's count in progress.
+pub fn t0(rest: &Rest) -> Timer
+    ensures { λ r. ⌜ r ≡ coreIn (now (rest .entry)) .t0 ⌝ }
+{
+    timer(rest, COUNT0)
+}
+
+// T1's.
+pub fn t1(rest: &Rest) -> Timer
+    ensures { λ r. ⌜ r ≡ coreIn (now (rest .entry)) .t1 ⌝ }
+{
+    timer(rest, COUNT1)
+}
+
+// The rest with these counts.
+pub fn set_counts(rest: &mut Rest, divider: u32, t0: Timer, t1: Timer)
+    ensures { λ _. ⌜ coreIn (now (rest .exit)) ≡ countingAt (coreIn (now (rest .entry))) divider t0 t1 (coreIn (now (rest .entry)) .tout) ⌝ }
+{
+    long(rest);
+    rest[DIVIDER] = divider;
+    rest[COUNT0] = t0.prescaler;
+    rest[COUNT0 + 1] = t0.counter;
+    rest[COUNT1] = t1.prescaler;
+    rest[COUNT1 + 1] = t1.counter;
+}
+
 // The T_OUT level.
-fn tout(rest: &Rest) -> bool
+pub fn tout(rest: &Rest) -> bool
     ensures { λ r. ⌜ r ≡ coreIn (now (rest .entry)) .tout ⌝ }
 {
     rest[TOUT] == 1
+}
+
+// The rest with this T_OUT level.
+pub fn set_tout(rest: &mut Rest, tout: bool)
+    ensures { λ _. ⌜ coreIn (now (rest .exit)) ≡ countingAt (coreIn (now (rest .entry))) (coreIn (now (rest .entry)) .divider) (coreIn (now (rest .entry)) .t0) (coreIn (now (rest .entry)) .t1) tout ⌝ }
+{
+    long(rest);
+    let level = word::bits_if(tout, 1);
+    rest[TOUT] = level as u32;
 }
 
 // The last Port 3 pins.
@@ -139,7 +173,7 @@ pub fn last3(rest: &Rest) -> u8
 }
 
 // The machine with other last pins of Port 3.
-pub fn set_last3(regs: &[u8; 256], rest: &mut Rest, port3: u8)
+pub fn set_last3(regs: &File, rest: &mut Rest, port3: u8)
     ensures { λ _. ⌜ machineIn (now (regs .entry)) (now (rest .exit)) ≡ withLast3 (machineIn (now (regs .entry)) (now (rest .entry))) port3 ⌝ }
 {
     long(rest);

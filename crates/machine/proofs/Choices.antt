@@ -1,4 +1,4 @@
--- Choices by a port's number, a type, an entry cost. Assumes nothing.
+-- Choices by a port's number, a type, an entry cost.
 use mathlib.Core.Path.{_≡_, refl}
 use mathlib.Core.Bool.{Bool, true, false, _&&_, _||_}
 use Prim.Native.Nat.{ℕ, _≤_, _<_}

@@ -1,4 +1,4 @@
--- A list's elements, whatever stands for those past its end. Assumes nothing.
+-- A list's elements, whatever stands for those past its end.
 use mathlib.Core.Path.{_≡_, refl}
 use mathlib.Core.List.{List, [], _∷_}
 use Prim.Native.Nat.{ℕ, zero, suc, _<_}

@@ -1,4 +1,4 @@
--- A legal machine stays legal: each store, the stack, reset, cycles. And what registers and ports read is a byte. Assumes nothing.
+-- A legal machine stays legal: each store, the stack, reset, cycles. And what registers and ports read is a byte.
 use mathlib.Core.Path.{_≡_, _∙_, refl}
 use mathlib.Core.Bool.{Bool, true, false, not, _&&_, _||_}
 use mathlib.Core.List.{List, [], _∷_}

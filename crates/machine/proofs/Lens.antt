@@ -1,5 +1,5 @@
 -- What cycles move of a machine: what is put back is seen, what the timers read stays, the last put counts, and what is seen, put back,
--- is the machine itself. So n cycles of a machine are n cycles of what they move, put back once. Assumes nothing.
+-- is the machine itself. So n cycles of a machine are n cycles of what they move, put back once.
 use mathlib.Core.Path.{_≡_, refl, ap, sym, _∙_}
 use mathlib.Core.Bool.{Bool, true, false}
 use Prim.Native.Nat.{ℕ, zero, suc, _≤_, _<_}

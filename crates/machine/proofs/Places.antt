@@ -1,5 +1,5 @@
 -- The places of the register file: what is placed is held, the other places stay, the last that is placed counts. Only these laws look
--- into the layout. Assumes nothing.
+-- into the layout.
 use mathlib.Core.Path.{_≡_, ap, _∙_}
 use mathlib.Core.List.{List}
 use mathlib.Core.Logic.{_≢_}

@@ -1,4 +1,4 @@
--- R4 to R127, which are what they hold, and the holes 80 to EF and F0. Assumes nothing.
+-- R4 to R127, which are what they hold, and the holes 80 to EF and F0.
 use mathlib.Core.Path.{_≡_}
 use mathlib.Core.Bool.{true, _&&_}
 use Prim.Native.Nat.{ℕ, _<_, _≤_}

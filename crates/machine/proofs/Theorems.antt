@@ -1,5 +1,5 @@
 -- What the order asks of a machine beyond the contracts: a store moves nothing else, the Ex rule is applied once, a span moves the timers'
--- part alone, and the closed formula. Assumes nothing.
+-- part alone, and the closed formula.
 use mathlib.Core.Path.{_≡_, _∙_, refl, ap, sym}
 use mathlib.Core.Logic.{_≢_}
 use Prim.Native.Nat.{ℕ, _+_, _*_, _/_, _%_, _^_, _<_}

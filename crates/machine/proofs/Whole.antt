@@ -1,4 +1,4 @@
--- A place put into a machine that is known, and what no store moves. Assumes nothing.
+-- A place put into a machine that is known, and what no store moves.
 use mathlib.Core.Path.{_≡_, _∙_, refl}
 use mathlib.Core.List.{List, [], _∷_}
 use Prim.Native.Nat.{ℕ, _+_, _-_, _*_, _%_}

@@ -1,4 +1,4 @@
--- Operand addresses (01 "Memory and registers"; 004 3.2 and chapter 4). Assumes nothing.
+-- Operand addresses (01 "Memory and registers"; 004 3.2 and chapter 4).
 use Prim.Native.Nat.{ℕ, _+_, _*_, _/_, _%_}
 use lib.Dec.{eqb}
 use Rattle.word.specs.Choose.{pick}

@@ -1,4 +1,4 @@
--- What the timers read and move of a machine, and the machine's own cycles (01 "The timers"). Assumes nothing.
+-- What the timers read and move of a machine, and the machine's own cycles (01 "The timers").
 use mathlib.Core.Bool.{Bool}
 use Prim.Native.Nat.{ℕ}
 use lib.Bits.{bitAnd, bitOr}

@@ -1,10 +1,11 @@
--- A legal machine (01 "Numbers the encoder sees"). Assumes nothing.
+-- A legal machine (01 "Numbers the encoder sees").
 use mathlib.Core.Path.{_≡_}
 use mathlib.Core.Bool.{Bool, true, _&&_}
 use mathlib.Core.List.{List}
 use Prim.Native.Nat.{ℕ, _<_}
 use lib.Dec.{T, eqb}
 use lib.ListN.{length}
+use Rattle.numbers.specs.Numbers.{fileLength}
 use Rattle.word.specs.Choose.{pick}
 use Rattle.word.specs.Fields.{bitOf, lower}
 use Rattle.timers.specs.Clock.{LegalMoving}
@@ -25,7 +26,7 @@ mayHold a v =
 
 -- a file of 256 bytes, as every file in code is by its type, in which each place holds what it may
 pub record LegalFile (file : List ℕ) : Type 0 where
-  pub long : length file ≡ 256
+  pub long : length file ≡ fileLength
   pub bytes : (a : ℕ) → heldIn file a < 256
   pub places : (a : ℕ) → T (mayHold a (heldIn file a))
 

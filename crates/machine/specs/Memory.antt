@@ -1,6 +1,5 @@
 -- Program and data memory (01 "Memory and registers"; 004 3.4 and 3.5). "Data and program memory are separate, and port modes don't
 -- hinder either (HOUSE)": nothing here looks at a register. "LDC and LDCI stores are dropped (HOUSE)": nothing stores to the image.
--- Assumes nothing.
 use mathlib.Core.List.{List, [], _∷_}
 use Prim.Native.Nat.{ℕ}
 use lib.Dec.{eqb, ltb}

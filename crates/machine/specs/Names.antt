@@ -1,4 +1,4 @@
--- The control registers F0 to FF under the manual's names (002, R240 to R255; 004, 3.2). Assumes nothing.
+-- The control registers F0 to FF under the manual's names (002, R240 to R255; 004, 3.2).
 use Prim.Native.Nat.{ℕ}
 
 abbrev pub SIO : ℕ

@@ -1,4 +1,4 @@
--- Ports 0 to 3 (01 "Memory and registers"; 004 6.3 and 9.2 to 9.5; 002, R246 and R248). Assumes nothing.
+-- Ports 0 to 3 (01 "Memory and registers"; 004 6.3 and 9.2 to 9.5; 002, R246 and R248).
 use mathlib.Core.Bool.{Bool}
 use Prim.Native.Nat.{ℕ, _-_, _/_, _%_}
 use lib.Dec.{eqb, leb}

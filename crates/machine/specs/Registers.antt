@@ -1,5 +1,4 @@
 -- What a register's address reads, and what a store to it does (01 "Memory and registers"; 004 3.2 and 10.8; 002, R240 to R255).
--- Assumes nothing.
 use mathlib.Core.Bool.{Bool, _&&_, _||_}
 use Prim.Native.Nat.{ℕ, _*_, _%_}
 use lib.Dec.{eqb, ltb, leb}

@@ -1,4 +1,4 @@
--- The stack (01 "Instructions"; 004 3.6 and 6.4). Assumes nothing.
+-- The stack (01 "Instructions"; 004 3.6 and 6.4).
 use mathlib.Core.Bool.{Bool}
 use mathlib.Core.List.{List, [], _∷_}
 use Prim.Native.Nat.{ℕ, _+_, _-_, _%_}

@@ -1,9 +1,10 @@
--- Reset, and the new machine (01 "One step", "Numbers the encoder sees"; 004, table 8-1). Assumes nothing.
+-- Reset, and the new machine (01 "One step", "Numbers the encoder sees"; 004, table 8-1).
 use mathlib.Core.Bool.{Bool, true, _&&_, _||_}
 use mathlib.Core.List.{List, [], _∷_}
 use Prim.Native.Nat.{ℕ}
 use lib.Dec.{eqb, leb}
 use lib.ListN.{replicate}
+use Rattle.numbers.specs.Numbers.{refusedMaking, fileLength}
 use Rattle.word.specs.Choose.{pick}
 use Rattle.timers.specs.declared.Timer.{Timer}
 use Rattle.machine.specs.Names.{SIO, TMR, T1, PRE1, T0, PRE0, P2M, P3M, P01M, IPR, IRQ, IMR, FLAGS, RP, SPH, SPL}
@@ -57,7 +58,7 @@ resetOf m = startedWith (m .regs) (m .kind) (m .cost)
 
 -- "a new machine has R4 to R127 zero"
 unfoldable pub newOf : ℕ → ℕ → Machine
-newOf kind cost = startedWith (replicate 256 0) kind cost
+newOf kind cost = startedWith (replicate fileLength 0) kind cost
 
 -- "A new machine: type 11 and entry cost 20 unless others are named"
 unfoldable pub defaultOf : Machine
@@ -76,4 +77,4 @@ unfoldable pub madeOf : ℕ → ℕ → Made
 madeOf kind cost =
     pick (isKind kind && isCost cost)
     (record { refusal = 0; machine = newOf kind cost })
-    (record { refusal = 3; machine = defaultOf })
+    (record { refusal = refusedMaking; machine = defaultOf })

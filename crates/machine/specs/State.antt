@@ -1,6 +1,6 @@
 -- The machine, and the places of its register file (01 "Numbers the encoder sees"). Of a `Machine`, `regs` is the register file, `pc` the program
 -- counter, `divider` the divider, `t0` and `t1` the counts in progress, `last3` the last Port 3 pins, `tout` the T_OUT level, `kind` the type, 1 or 11, and
--- `cost` the interrupt entry cost. A `Core` is the same without the file; below it is called the machine's rest. Assumes nothing.
+-- `cost` the interrupt entry cost. A `Core` is the same without the file; below it is called the machine's rest.
 use mathlib.Core.List.{List}
 use Prim.Native.Nat.{ℕ}
 use lib.ListN.{getD, set}

@@ -2,17 +2,19 @@
 // at the edges; below them it is lent, in the room `lent`.
 pub mod file;
 pub mod memory;
+pub mod names;
 pub mod ports;
 pub mod start;
 
 use timers::Timer;
-ghost use mathlib.Core.Path.{_≡_};
-ghost use Rattle.word.specs.Choose.{bitsIf};
+
+// The register file: "256 places in address order" (01).
+pub type File = [u8; numbers::FILE_LENGTH];
 
 // 01's machine: the register file in address order, the program counter, the divider, both timers' counts in progress, the last Port 3
 // pins, the T_OUT level, the type (1 or 11) and the interrupt entry cost.
 pub struct Machine {
-    pub regs: [u8; 256],
+    pub regs: File,
     pub pc: u16,
     pub divider: u32,
     pub t0: Timer,
@@ -54,11 +56,4 @@ pub enum Bytes {
 pub enum Stores {
     Nothing,
     At(u16, Bytes),
-}
-
-// These bits where the test holds, else none.
-pub fn bits_if(test: bool, bits: u8) -> u8
-    ensures { λ r. ⌜ r ≡ bitsIf test bits ⌝ }
-{
-    if test { bits } else { 0 }
 }

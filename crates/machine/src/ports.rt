@@ -21,10 +21,10 @@ fn port0_lines(p01m: u8) -> Directions
 {
     let high = p01m / 64;
     let low = p01m % 4;
-    let high_inputs = crate::bits_if(high == 1, 0xF0);
-    let low_inputs = crate::bits_if(low == 1, 0x0F);
-    let high_address = crate::bits_if(2 <= high, 0xF0);
-    let low_address = crate::bits_if(2 <= low, 0x0F);
+    let high_inputs = word::bits_if(high == 1, 0xF0);
+    let low_inputs = word::bits_if(low == 1, 0x0F);
+    let high_address = word::bits_if(2 <= high, 0xF0);
+    let low_address = word::bits_if(2 <= low, 0x0F);
     Directions {
         inputs: high_inputs | low_inputs,
         address: high_address | low_address,
@@ -35,8 +35,8 @@ fn port1_lines(p01m: u8) -> Directions
     ensures { λ r. ⌜ r ≡ port1Directions p01m ⌝ }
 {
     let mode = p01m / 8 % 4;
-    let inputs = crate::bits_if(mode == 1, 0xFF);
-    let address = crate::bits_if(2 <= mode, 0xFF);
+    let inputs = word::bits_if(mode == 1, 0xFF);
+    let address = word::bits_if(2 <= mode, 0xFF);
     Directions { inputs, address }
 }
 

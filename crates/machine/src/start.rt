@@ -1,5 +1,7 @@
 // Reset, and the new machine.
+use crate::File;
 use crate::Machine;
+use crate::names;
 use timers::Timer;
 ghost use mathlib.Core.Path.{_≡_};
 ghost use Rattle.machine.specs.Start.{placedAll, resetPlaces, startedWith, resetOf, newOf, defaultOf, isKind, isCost, madeOf, fullTimer};
@@ -20,33 +22,33 @@ fn full_timer() -> Timer
 }
 
 // The places that reset writes, in address order: the ports' latches, and F0 to FF.
-fn reset_places(regs: &mut [u8; 256])
+fn reset_places(regs: &mut File)
     ensures { λ _. ⌜ now (regs .exit) ≡ placedAll (now (regs .entry)) resetPlaces ⌝ }
 {
     crate::file::place(regs, 0x00, 0);
     crate::file::place(regs, 0x01, 0);
     crate::file::place(regs, 0x02, 0);
     crate::file::place(regs, 0x03, 0);
-    crate::file::place(regs, 0xF0, 0);
-    crate::file::place(regs, 0xF1, 0);
-    crate::file::place(regs, 0xF2, 0);
-    crate::file::place(regs, 0xF3, 0);
-    crate::file::place(regs, 0xF4, 0);
-    crate::file::place(regs, 0xF5, 0);
-    crate::file::place(regs, 0xF6, 0xFF);
-    crate::file::place(regs, 0xF7, 0);
-    crate::file::place(regs, 0xF8, 0x4D);
-    crate::file::place(regs, 0xF9, 0);
-    crate::file::place(regs, 0xFA, 0);
-    crate::file::place(regs, 0xFB, 0);
-    crate::file::place(regs, 0xFC, 0);
-    crate::file::place(regs, 0xFD, 0);
-    crate::file::place(regs, 0xFE, 0);
-    crate::file::place(regs, 0xFF, 0);
+    crate::file::place(regs, names::SIO, 0);
+    crate::file::place(regs, names::TMR, 0);
+    crate::file::place(regs, names::T1, 0);
+    crate::file::place(regs, names::PRE1, 0);
+    crate::file::place(regs, names::T0, 0);
+    crate::file::place(regs, names::PRE0, 0);
+    crate::file::place(regs, names::P2M, 0xFF);
+    crate::file::place(regs, names::P3M, 0);
+    crate::file::place(regs, names::P01M, 0x4D);
+    crate::file::place(regs, names::IPR, 0);
+    crate::file::place(regs, names::IRQ, 0);
+    crate::file::place(regs, names::IMR, 0);
+    crate::file::place(regs, names::FLAGS, 0);
+    crate::file::place(regs, names::RP, 0);
+    crate::file::place(regs, names::SPH, 0);
+    crate::file::place(regs, names::SPL, 0);
 }
 
 // The machine as it starts, of a file whose R4 to R127 stay.
-fn started_with(file: [u8; 256], kind: u8, cost: u8) -> Machine
+fn started_with(file: File, kind: u8, cost: u8) -> Machine
     ensures { λ r. ⌜ r ≡ startedWith file kind cost ⌝ }
 {
     let mut regs = file;
@@ -107,7 +109,7 @@ impl Machine {
     fn fresh(kind: u8, cost: u8) -> Self
         ensures { λ m. ⌜ m ≡ newOf kind cost ⌝ }
     {
-        let file = [0u8; 256];
+        let file = [0u8; numbers::FILE_LENGTH];
         started_with(file, kind, cost)
     }
 
@@ -127,13 +129,13 @@ impl Machine {
         if known & payable {
             let machine = Machine::fresh(kind as u8, cost as u8);
             Made {
-                refusal: 0,
+                refusal: numbers::DONE,
                 machine,
             }
         } else {
             let machine = Machine::default();
             Made {
-                refusal: 3,
+                refusal: numbers::REFUSED_MAKING,
                 machine,
             }
         }

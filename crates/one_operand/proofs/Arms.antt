@@ -1,4 +1,4 @@
--- Columns 0 and 1: a law for each sort of arm. Assumes nothing.
+-- Columns 0 and 1: a law for each sort of arm.
 use mathlib.Core.Path.{_≡_, refl, _∙_, ap}
 use mathlib.Core.List.{List}
 use Prim.Native.Nat.{ℕ}

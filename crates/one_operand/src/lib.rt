@@ -3,7 +3,9 @@ use alu::Adjusted;
 use deeds::Code;
 use lent::Rest;
 use machine::Bytes;
+use machine::File;
 use machine::Pins;
+use machine::names;
 use operands::Operands;
 ghost use mathlib.Core.Path.{_≡_};
 ghost use Rattle.lent.specs.View.{machineIn};
@@ -18,10 +20,10 @@ ghost use Rattle.execute.specs.ForCode.{performed, instructionAt};
 ghost use Rattle.operands.specs.ForCode.{At};
 
 // DA's outcome, where there is one, stored.
-fn da(regs: &mut [u8; 256], rest: &mut Rest, pins: Pins, a: u8)
+fn da(regs: &mut File, rest: &mut Rest, pins: Pins, a: u8)
     ensures { λ _. ⌜ machineIn (now (regs .exit)) (now (rest .exit)) ≡ doneOf pins (machineIn (now (regs .entry)) (now (rest .entry))) (adjustDeed a (daOf (readReg pins (machineIn (now (regs .entry)) (now (rest .entry))) a) (flagsOf (machineIn (now (regs .entry)) (now (rest .entry)))))) .machine ⌝ }
 {
-    let was = lent::registers::read(regs, rest, pins, a);
+    let was = registers::read(regs, rest, pins, a);
     let f = execute::doing::flags(regs, rest);
     let x = alu::decimal::da(was, f);
     match x {
@@ -50,7 +52,7 @@ fn push_cycles(lo: u8, internal: bool) -> u32
 }
 
 pub fn one(
-    regs: &mut [u8; 256],
+    regs: &mut File,
     rest: &mut Rest,
     pins: Pins,
     mem: &mut [u8],
@@ -66,7 +68,7 @@ pub fn one(
     let lo = i.op % 16;
     let a = o.dst;
     // read here for all that want it: an arm that doesn't loses little, and the whole stays small enough to be put into the run's loop
-    let was = lent::registers::read(regs, rest, pins, a);
+    let was = registers::read(regs, rest, pins, a);
     match row {
         0 => {
             let r = alu::arithmetic::dec(was);
@@ -86,11 +88,11 @@ pub fn one(
         }
         3 => {
             if lo == 0 {
-                let to = lent::addresses::read_pair(regs, rest, pins, a);
+                let to = registers::addresses::read_pair(regs, rest, pins, a);
                 lent::set_pc(regs, rest, to);
                 return 8;
             }
-            lent::registers::write(regs, rest, 0xFD, i.first);
+            registers::write(regs, rest, names::RP, i.first);
             6
         }
         4 => {
@@ -98,9 +100,9 @@ pub fn one(
             8
         }
         5 => {
-            let v = lent::stack::byte_at(regs, rest, pins, mem, 0);
-            lent::stack::raise(regs, rest, 1);
-            lent::registers::write(regs, rest, a, v);
+            let v = registers::stack::byte_at(regs, rest, pins, mem, 0);
+            registers::stack::raise(regs, rest, 1);
+            registers::write(regs, rest, a, v);
             10
         }
         6 => {
@@ -109,14 +111,14 @@ pub fn one(
             6
         }
         7 => {
-            let internal = lent::stack::is_internal(regs, rest);
+            let internal = registers::stack::is_internal(regs, rest);
             let cycles = push_cycles(lo, internal);
             let b = Bytes::One(was);
-            lent::stack::push(regs, rest, mem, b);
+            registers::stack::push(regs, rest, mem, b);
             cycles
         }
         8 => {
-            let pair = lent::addresses::read_pair(regs, rest, pins, a);
+            let pair = registers::addresses::read_pair(regs, rest, pins, a);
             let r = alu::arithmetic::decw(pair);
             execute::doing::store_word(regs, rest, a, r);
             10
@@ -127,13 +129,13 @@ pub fn one(
             6
         }
         10 => {
-            let pair = lent::addresses::read_pair(regs, rest, pins, a);
+            let pair = registers::addresses::read_pair(regs, rest, pins, a);
             let r = alu::arithmetic::incw(pair);
             execute::doing::store_word(regs, rest, a, r);
             10
         }
         11 => {
-            lent::registers::write(regs, rest, a, 0);
+            registers::write(regs, rest, a, 0);
             6
         }
         12 => {

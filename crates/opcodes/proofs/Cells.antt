@@ -1,4 +1,4 @@
--- A part of a map of 16 rows of 16 compared with what the code answers there, by computing both. Assumes nothing.
+-- A part of a map of 16 rows of 16 compared with what the code answers there, by computing both.
 use mathlib.Core.Path.{_≡_, refl, sym, subst}
 use mathlib.Core.Bool.{true, false, not}
 use mathlib.Core.List.{List}
@@ -11,7 +11,8 @@ use Rattle.opcodes.specs.declared.Entry.{Entry}
 use Rattle.opcodes.specs.declared.Entry.the-variants.{Blank, Of}
 use Rattle.opcodes.specs.declared.Decoded.the-variants as decoded
 use Rattle.opcodes.specs.Map.{entryOf}
-use Rattle.opcodes.specs.Instruction.{defined, lengthOf, operand, opcodeUndefined, decodedAs, decodeOf}
+use Rattle.numbers.specs.Numbers.{refusedOpcode}
+use Rattle.opcodes.specs.Instruction.{defined, lengthOf, operand, decodedAs, decodeOf}
 
 -- f, of an upper and a lower nibble, in the m columns from j of the n rows from i
 abbrev pub part : {A : Type 0} → ℕ → ℕ → ℕ → ℕ → (ℕ → ℕ → A) → List (List A)
@@ -41,10 +42,10 @@ decoded-where op a b d = go (entryOf op) d
     go Blank d = absurd (subst T (sym d) tt)
     go (Of k) d = refl
 
-pub decoded-where-not : (op a b : ℕ) → defined (entryOf op) ≡ false → decodeOf op a b ≡ decoded.Refused opcodeUndefined
+pub decoded-where-not : (op a b : ℕ) → defined (entryOf op) ≡ false → decodeOf op a b ≡ decoded.Refused refusedOpcode
 unfolding decodeOf
 decoded-where-not op a b d = go (entryOf op) d
   where
-    go : (e : Entry) → defined e ≡ false → decodedAs e op a b ≡ decoded.Refused opcodeUndefined
+    go : (e : Entry) → defined e ≡ false → decodedAs e op a b ≡ decoded.Refused refusedOpcode
     go Blank d = refl
     go (Of k) d = absurd (subst T d tt)

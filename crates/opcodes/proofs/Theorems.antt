@@ -1,6 +1,5 @@
 -- What the map promises besides the functions' contracts: which opcodes are undefined and how many are defined, what each costs, and
 -- that decoding and encoding undo each other. Tests over all 256 opcodes are computed; operand bytes are variables throughout.
--- Assumes nothing.
 use mathlib.Core.Path.{_≡_, _∙_, refl, sym, ap, subst}
 use mathlib.Core.Bool.{Bool, true, false, _&&_, _||_}
 use mathlib.Core.List.{List, [], _∷_, _++_}

@@ -1,6 +1,6 @@
 -- The execution cycles of the opcode map (000 and 003): the first figure in each of its cells. Two figures are two outcomes, of a jump and of
 -- the kind of stack: "Taken DJNZ, JR and JP cc 12, else 10. PUSH R 10 with internal stack, 12 external; PUSH IR 12 and 14. CALL 20, RET 14,
--- IRET 16. The longest instruction takes 20." (01). DA @R is 8 by its page and by 000; 003 prints 6. Assumes nothing.
+-- IRET 16. The longest instruction takes 20." (01). DA @R is 8 by its page and by 000; 003 prints 6.
 use Prim.Native.Nat.{ℕ}
 use mathlib.Core.Bool.{Bool}
 use mathlib.Core.List.{List, [], _∷_}

@@ -1,5 +1,5 @@
 -- What is regular in the map, for the contracts of the code that executes it by column and row: nothing here has to be believed, as the
--- map alone says what an opcode is. Assumes nothing.
+-- map alone says what an opcode is.
 use Prim.Native.Nat.{ℕ, _-_}
 use mathlib.Core.Bool.{Bool}
 use mathlib.Core.List.{[], _∷_}

@@ -1,9 +1,10 @@
--- An instruction, from its bytes and to its bytes (01, "Instructions"). Assumes nothing.
+-- An instruction, from its bytes and to its bytes (01, "Instructions").
 use Prim.Native.Nat.{ℕ}
 use mathlib.Core.Bool.{Bool, true, false, _&&_}
 use mathlib.Core.List.{List, [], _∷_}
 use lib.Dec.{leb, eqb}
 use lib.ListN.{getD}
+use Rattle.numbers.specs.Numbers.{refusedOpcode, refusedInstruction}
 use Rattle.word.specs.Choose.{pick}
 use Rattle.word.specs.Fields.{lower}
 use Rattle.opcodes.specs.declared.Entry.{Entry}
@@ -30,16 +31,9 @@ defined (Of k) = true
 abbrev pub operand : ℕ → ℕ → ℕ → ℕ
 operand n op b = pick (leb n (lengthOf op)) b 0
 
--- the refusals of 01's table that are given here
-abbrev pub opcodeUndefined : ℕ
-opcodeUndefined = 5
-
-abbrev pub noInstruction : ℕ
-noInstruction = 8
-
 -- what three bytes of a program, the first of them the opcode, decode to: the opcode, its two operand bytes and its length; or 5
 abbrev pub decodedAs : Entry → ℕ → ℕ → ℕ → Decoded
-decodedAs Blank op a b = decoded.Refused opcodeUndefined
+decodedAs Blank op a b = decoded.Refused refusedOpcode
 decodedAs (Of k) op a b = decoded.Instruction op (operand 2 op a) (operand 3 op b) (lengthOf op)
 
 unfoldable pub decodeOf : ℕ → ℕ → ℕ → Decoded
@@ -52,4 +46,4 @@ isInstruction op first second = defined (entryOf op) && (eqb (operand 2 op first
 -- "Encoding gives the length and three bytes, unused ones zero"; anything else to encode is 8
 unfoldable pub encodeOf : ℕ → ℕ → ℕ → Encoded
 encodeOf op first second =
-    pick (isInstruction op first second) (encoded.Bytes (lengthOf op) op first second) (encoded.Refused noInstruction)
+    pick (isInstruction op first second) (encoded.Bytes (lengthOf op) op first second) (encoded.Refused refusedInstruction)

@@ -2,7 +2,6 @@
 -- 5.6 give the same opcodes. (Column F is whole in 003 alone, which for its part has Ir where the others have Irr.) Each entry is a mnemonic with its
 -- address modes (5.4), destination first as in 5.5, where the maps print the order of the bytes (1 is the destination, 2 the source).
 -- "The blank areas are not defined": "231 opcodes are defined. The 25 undefined" (01) are exactly these (proved: `undefined-are`).
--- Assumes nothing.
 use Prim.Native.Nat.{ℕ}
 use mathlib.Core.List.{List, [], _∷_}
 use lib.ListN.{getD}

@@ -6,11 +6,6 @@ ghost use lib.Dec.{leb};
 ghost use Rattle.word.specs.Choose.{pick};
 ghost use Rattle.opcodes.specs.Instruction.{lengthOf, decodeOf, encodeOf};
 
-// 01's table.
-const OPCODE_UNDEFINED: u8 = 5;
-
-const NO_INSTRUCTION: u8 = 8;
-
 // An instruction's length, by the lower nibble; CALL @RR is the one exception, and is asked for in its own column alone.
 pub fn length_of(op: u8) -> u8
     ensures { λ r. ⌜ r ≡ lengthOf op ⌝ }
@@ -42,7 +37,7 @@ pub fn decode(op: u8, a: u8, b: u8) -> Decoded
     if defined {
         Decoded::Instruction(op, first, second, n)
     } else {
-        Decoded::Refused(OPCODE_UNDEFINED)
+        Decoded::Refused(numbers::REFUSED_OPCODE)
     }
 }
 
@@ -57,6 +52,6 @@ pub fn encode(op: u8, first: u8, second: u8) -> Encoded
     if defined & ((own_first == first) & (own_second == second)) {
         Encoded::Bytes(n, op, first, second)
     } else {
-        Encoded::Refused(NO_INSTRUCTION)
+        Encoded::Refused(numbers::REFUSED_INSTRUCTION)
     }
 }

@@ -1,4 +1,4 @@
--- What the map has at an opcode, done, and what its column says: every arm of the rooms above rests on these. Assumes nothing.
+-- What the map has at an opcode, done, and what its column says: every arm of the rooms above rests on these.
 use mathlib.Core.Path.{_≡_, refl, sym, _∙_, ap}
 use mathlib.Core.List.{List}
 use Prim.Native.Nat.{ℕ, _+_, _-_, _*_, _≤_, _<_}

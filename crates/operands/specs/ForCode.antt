@@ -1,5 +1,4 @@
 -- For the contracts of the code alone, which goes by the opcode's column where the definitions go by its kind: nothing here has to be believed.
--- Assumes nothing.
 use mathlib.Core.List.{List, [], _∷_}
 use mathlib.Core.Path.{_≡_}
 use Prim.Native.Nat.{ℕ, _≤_, _<_}

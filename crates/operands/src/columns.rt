@@ -2,6 +2,7 @@
 use crate::Operands;
 use deeds::Code;
 use lent::Rest;
+use machine::File;
 use machine::Pins;
 ghost use mathlib.Core.Path.{_≡_};
 ghost use Rattle.word.specs.Fields.{lower};
@@ -12,7 +13,7 @@ ghost use Rattle.execute.specs.ForCode.{columnLength};
 ghost use Rattle.operands.specs.ForCode.{columnAt};
 
 // The machine n bytes further than pc.
-fn at(regs: &[u8; 256], rest: &mut Rest, pc: u16, n: u16)
+fn at(regs: &File, rest: &mut Rest, pc: u16, n: u16)
     ensures { λ _. ⌜ machineIn (now (regs .entry)) (now (rest .exit)) ≡ withPc (machineIn (now (regs .entry)) (now (rest .entry))) (plus pc n) ⌝ }
 {
     let to = word::plus(pc, n);
@@ -20,7 +21,7 @@ fn at(regs: &[u8; 256], rest: &mut Rest, pc: u16, n: u16)
 }
 
 // What the opcode's column says; the machine is at the next instruction then.
-pub fn operands(regs: &[u8; 256], rest: &mut Rest, pins: Pins, pc: u16, i: Code) -> Operands
+pub fn operands(regs: &File, rest: &mut Rest, pins: Pins, pc: u16, i: Code) -> Operands
     ensures { λ r. ⌜ r ≡ columnAt pins (machineIn (now (regs .entry)) (now (rest .exit))) i ⌝ }
     ensures next { λ _. ⌜ machineIn (now (regs .entry)) (now (rest .exit)) ≡ withPc (machineIn (now (regs .entry)) (now (rest .entry))) (plus pc (columnLength (lower (i .op)))) ⌝ }
 {
@@ -28,7 +29,7 @@ pub fn operands(regs: &[u8; 256], rest: &mut Rest, pins: Pins, pc: u16, i: Code)
     match lo {
         0 => {
             at(regs, rest, pc, 2);
-            let dst = lent::addresses::register(regs, rest, i.first);
+            let dst = registers::addresses::register(regs, rest, i.first);
             Operands {
                 dst,
                 src: 0,
@@ -37,7 +38,7 @@ pub fn operands(regs: &[u8; 256], rest: &mut Rest, pins: Pins, pc: u16, i: Code)
         }
         1 => {
             at(regs, rest, pc, 2);
-            let dst = lent::addresses::indirect(regs, rest, pins, i.first);
+            let dst = registers::addresses::indirect(regs, rest, pins, i.first);
             Operands {
                 dst,
                 src: 0,
@@ -46,9 +47,9 @@ pub fn operands(regs: &[u8; 256], rest: &mut Rest, pins: Pins, pc: u16, i: Code)
         }
         2 => {
             at(regs, rest, pc, 2);
-            let dst = lent::addresses::working(regs, rest, i.first / 16);
-            let a = lent::addresses::working(regs, rest, i.first % 16);
-            let src = lent::registers::read(regs, rest, pins, a);
+            let dst = registers::addresses::working(regs, rest, i.first / 16);
+            let a = registers::addresses::working(regs, rest, i.first % 16);
+            let src = registers::read(regs, rest, pins, a);
             Operands {
                 dst,
                 src,
@@ -57,9 +58,9 @@ pub fn operands(regs: &[u8; 256], rest: &mut Rest, pins: Pins, pc: u16, i: Code)
         }
         3 => {
             at(regs, rest, pc, 2);
-            let dst = lent::addresses::working(regs, rest, i.first / 16);
-            let a = lent::addresses::working_indirect(regs, rest, pins, i.first % 16);
-            let src = lent::registers::read(regs, rest, pins, a);
+            let dst = registers::addresses::working(regs, rest, i.first / 16);
+            let a = registers::addresses::working_indirect(regs, rest, pins, i.first % 16);
+            let src = registers::read(regs, rest, pins, a);
             Operands {
                 dst,
                 src,
@@ -68,9 +69,9 @@ pub fn operands(regs: &[u8; 256], rest: &mut Rest, pins: Pins, pc: u16, i: Code)
         }
         4 => {
             at(regs, rest, pc, 3);
-            let dst = lent::addresses::register(regs, rest, i.second);
-            let a = lent::addresses::register(regs, rest, i.first);
-            let src = lent::registers::read(regs, rest, pins, a);
+            let dst = registers::addresses::register(regs, rest, i.second);
+            let a = registers::addresses::register(regs, rest, i.first);
+            let src = registers::read(regs, rest, pins, a);
             Operands {
                 dst,
                 src,
@@ -79,9 +80,9 @@ pub fn operands(regs: &[u8; 256], rest: &mut Rest, pins: Pins, pc: u16, i: Code)
         }
         5 => {
             at(regs, rest, pc, 3);
-            let dst = lent::addresses::register(regs, rest, i.second);
-            let a = lent::addresses::indirect(regs, rest, pins, i.first);
-            let src = lent::registers::read(regs, rest, pins, a);
+            let dst = registers::addresses::register(regs, rest, i.second);
+            let a = registers::addresses::indirect(regs, rest, pins, i.first);
+            let src = registers::read(regs, rest, pins, a);
             Operands {
                 dst,
                 src,
@@ -90,7 +91,7 @@ pub fn operands(regs: &[u8; 256], rest: &mut Rest, pins: Pins, pc: u16, i: Code)
         }
         6 => {
             at(regs, rest, pc, 3);
-            let dst = lent::addresses::register(regs, rest, i.first);
+            let dst = registers::addresses::register(regs, rest, i.first);
             Operands {
                 dst,
                 src: i.second,
@@ -99,7 +100,7 @@ pub fn operands(regs: &[u8; 256], rest: &mut Rest, pins: Pins, pc: u16, i: Code)
         }
         7 => {
             at(regs, rest, pc, 3);
-            let dst = lent::addresses::indirect(regs, rest, pins, i.first);
+            let dst = registers::addresses::indirect(regs, rest, pins, i.first);
             Operands {
                 dst,
                 src: i.second,
@@ -108,9 +109,9 @@ pub fn operands(regs: &[u8; 256], rest: &mut Rest, pins: Pins, pc: u16, i: Code)
         }
         8 => {
             at(regs, rest, pc, 2);
-            let dst = lent::addresses::working(regs, rest, i.op / 16);
-            let a = lent::addresses::register(regs, rest, i.first);
-            let src = lent::registers::read(regs, rest, pins, a);
+            let dst = registers::addresses::working(regs, rest, i.op / 16);
+            let a = registers::addresses::register(regs, rest, i.first);
+            let src = registers::read(regs, rest, pins, a);
             Operands {
                 dst,
                 src,
@@ -119,9 +120,9 @@ pub fn operands(regs: &[u8; 256], rest: &mut Rest, pins: Pins, pc: u16, i: Code)
         }
         9 => {
             at(regs, rest, pc, 2);
-            let dst = lent::addresses::register(regs, rest, i.first);
-            let a = lent::addresses::working(regs, rest, i.op / 16);
-            let src = lent::registers::read(regs, rest, pins, a);
+            let dst = registers::addresses::register(regs, rest, i.first);
+            let a = registers::addresses::working(regs, rest, i.op / 16);
+            let src = registers::read(regs, rest, pins, a);
             Operands {
                 dst,
                 src,
@@ -130,7 +131,7 @@ pub fn operands(regs: &[u8; 256], rest: &mut Rest, pins: Pins, pc: u16, i: Code)
         }
         10 => {
             at(regs, rest, pc, 2);
-            let dst = lent::addresses::working(regs, rest, i.op / 16);
+            let dst = registers::addresses::working(regs, rest, i.op / 16);
             Operands {
                 dst,
                 src: i.first,
@@ -147,7 +148,7 @@ pub fn operands(regs: &[u8; 256], rest: &mut Rest, pins: Pins, pc: u16, i: Code)
         }
         12 => {
             at(regs, rest, pc, 2);
-            let dst = lent::addresses::working(regs, rest, i.op / 16);
+            let dst = registers::addresses::working(regs, rest, i.op / 16);
             Operands {
                 dst,
                 src: i.first,
@@ -164,7 +165,7 @@ pub fn operands(regs: &[u8; 256], rest: &mut Rest, pins: Pins, pc: u16, i: Code)
         }
         14 => {
             at(regs, rest, pc, 1);
-            let dst = lent::addresses::working(regs, rest, i.op / 16);
+            let dst = registers::addresses::working(regs, rest, i.op / 16);
             Operands {
                 dst,
                 src: 0,

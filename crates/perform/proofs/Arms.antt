@@ -1,4 +1,4 @@
--- Columns 8 to F: a law for each sort of arm; and what `perform` hands on. Assumes nothing.
+-- Columns 8 to F: a law for each sort of arm; and what `perform` hands on.
 use mathlib.Core.Path.{_≡_, refl, _∙_, ap}
 use mathlib.Core.Bool.{Bool, true, false, not}
 use mathlib.Core.List.{List}

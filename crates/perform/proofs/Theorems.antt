@@ -1,4 +1,4 @@
--- The instruction at the program counter, and how its refusal shows in its cycles. Assumes nothing.
+-- The instruction at the program counter, and how its refusal shows in its cycles.
 use mathlib.Core.Path.{_≡_, refl}
 use mathlib.Core.Bool.{Bool, true, false, not}
 use mathlib.Core.List.{List}

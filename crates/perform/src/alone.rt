@@ -1,7 +1,9 @@
 // Column F of the map: instructions of one byte, without operands.
 use deeds::Code;
 use lent::Rest;
+use machine::File;
 use machine::Pins;
+use machine::names;
 use operands::Operands;
 ghost use mathlib.Core.Path.{_≡_};
 ghost use Rattle.lent.specs.View.{machineIn};
@@ -9,7 +11,7 @@ ghost use Rattle.execute.specs.ForCode.{performed, instructionAt};
 ghost use Rattle.operands.specs.ForCode.{At};
 
 pub fn alone(
-    regs: &mut [u8; 256],
+    regs: &mut File,
     rest: &mut Rest,
     pins: Pins,
     mem: &[u8],
@@ -42,19 +44,19 @@ pub fn alone(
         12 => {
             let f = execute::doing::flags(regs, rest);
             let v = alu::rcf(f);
-            lent::registers::write(regs, rest, 0xFC, v);
+            registers::write(regs, rest, names::FLAGS, v);
             6
         }
         13 => {
             let f = execute::doing::flags(regs, rest);
             let v = alu::scf(f);
-            lent::registers::write(regs, rest, 0xFC, v);
+            registers::write(regs, rest, names::FLAGS, v);
             6
         }
         14 => {
             let f = execute::doing::flags(regs, rest);
             let v = alu::ccf(f);
-            lent::registers::write(regs, rest, 0xFC, v);
+            registers::write(regs, rest, names::FLAGS, v);
             6
         }
         15 => 6,

@@ -1,6 +1,7 @@
 // Columns A, B and D of the map: DJNZ, JR and JP.
 use deeds::Code;
 use lent::Rest;
+use machine::File;
 use machine::Pins;
 use operands::Operands;
 ghost use mathlib.Core.Path.{_≡_};
@@ -15,7 +16,7 @@ const TAKEN: u32 = 12;
 const NOT_TAKEN: u32 = 10;
 
 pub fn djnz(
-    regs: &mut [u8; 256],
+    regs: &mut File,
     rest: &mut Rest,
     pins: Pins,
     mem: &[u8],
@@ -28,9 +29,9 @@ pub fn djnz(
     ensures { λ r. ⌜ performed (machineIn (now (regs .exit)) (now (rest .exit))) (now (mem .entry)) r ≡ instructionAt pins (now (image .entry)) (now (mem .entry)) (machineIn (now (regs .entry)) (now (rest .entry))) pc i ⌝ }
 {
     let here = lent::pc(rest);
-    let was = lent::registers::read(regs, rest, pins, o.dst);
+    let was = registers::read(regs, rest, pins, o.dst);
     let less = std::num::wrapping_add_u8(was, 255);
-    lent::registers::write(regs, rest, o.dst, less);
+    registers::write(regs, rest, o.dst, less);
     if less != 0 {
         let to = word::moved(here, o.src);
         lent::set_pc(regs, rest, to);
@@ -40,7 +41,7 @@ pub fn djnz(
 }
 
 // Whether the condition in the opcode's upper nibble holds.
-fn condition(regs: &[u8; 256], rest: &Rest, i: Code) -> bool
+fn condition(regs: &File, rest: &Rest, i: Code) -> bool
     ensures { λ r. ⌜ r ≡ conditionOf (machineIn (now (regs .entry)) (now (rest .entry))) i ⌝ }
 {
     let f = execute::doing::flags(regs, rest);
@@ -48,7 +49,7 @@ fn condition(regs: &[u8; 256], rest: &Rest, i: Code) -> bool
 }
 
 pub fn jr(
-    regs: &[u8; 256],
+    regs: &File,
     rest: &mut Rest,
     pins: Pins,
     mem: &[u8],
@@ -71,7 +72,7 @@ pub fn jr(
 }
 
 pub fn jp(
-    regs: &[u8; 256],
+    regs: &File,
     rest: &mut Rest,
     pins: Pins,
     mem: &[u8],

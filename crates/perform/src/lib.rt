@@ -5,6 +5,7 @@ mod returns;
 
 use deeds::Code;
 use lent::Rest;
+use machine::File;
 use machine::Pins;
 ghost use mathlib.Core.Path.{_≡_};
 ghost use Rattle.lent.specs.View.{machineIn};
@@ -13,7 +14,7 @@ ghost use Rattle.execute.specs.ForCode.{performed, performedBy, instructionAt};
 
 // The instruction i, which stands at pc.
 pub fn perform(
-    regs: &mut [u8; 256],
+    regs: &mut File,
     rest: &mut Rest,
     pins: Pins,
     mem: &mut [u8],
@@ -29,22 +30,22 @@ pub fn perform(
         0 | 1 => one_operand::one(regs, rest, pins, mem, image, pc, i, o),
         2 | 3 | 4 | 5 | 6 | 7 => two_operands::two(regs, rest, pins, mem, image, pc, i, o),
         8 => {
-            lent::registers::write(regs, rest, o.dst, o.src);
+            registers::write(regs, rest, o.dst, o.src);
             6
         }
         9 => {
-            lent::registers::write(regs, rest, o.dst, o.src);
+            registers::write(regs, rest, o.dst, o.src);
             6
         }
         10 => jumps::djnz(regs, rest, pins, mem, image, pc, i, o),
         11 => jumps::jr(regs, rest, pins, mem, image, pc, i, o),
         12 => {
-            lent::registers::write(regs, rest, o.dst, o.src);
+            registers::write(regs, rest, o.dst, o.src);
             6
         }
         13 => jumps::jp(regs, rest, pins, mem, image, pc, i, o),
         14 => {
-            let was = lent::registers::read(regs, rest, pins, o.dst);
+            let was = registers::read(regs, rest, pins, o.dst);
             let r = alu::arithmetic::inc(was);
             execute::doing::store(regs, rest, o.dst, r);
             6
@@ -55,7 +56,7 @@ pub fn perform(
 
 // The instruction at the program counter.
 pub fn execute_here(
-    regs: &mut [u8; 256],
+    regs: &mut File,
     rest: &mut Rest,
     pins: Pins,
     mem: &mut [u8],

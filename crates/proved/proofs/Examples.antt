@@ -1,4 +1,4 @@
--- 01's examples hold, all together, computed from the definitions. Assumes nothing.
+-- 01's examples hold, all together, computed from the definitions.
 use mathlib.Core.Path.{_≡_, refl, ap, _∙_}
 use lib.Dec.{T}
 use Prim.Native.Nat.{ℕ, _+_, _/_, _<_}

@@ -1,4 +1,4 @@
--- 01's proved examples, one list: each is a test on the definitions. Assumes nothing.
+-- 01's proved examples, one list: each is a test on the definitions.
 use Prim.Native.Nat.{ℕ}
 use mathlib.Core.Bool.{Bool, true, false, _&&_}
 use mathlib.Core.List.{List, [], _∷_, _++_}

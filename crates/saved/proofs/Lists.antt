@@ -1,5 +1,4 @@
 -- A copy from the front of one list to the front of another, element by element; a list put together of two; and the loop over the holes.
--- Assumes nothing.
 use mathlib.Core.Path.{_≡_, _∙_, sym, ap}
 use mathlib.Core.Bool.{false}
 use mathlib.Core.List.{List, [], _++_, append-nil}

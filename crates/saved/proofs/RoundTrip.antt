@@ -1,5 +1,4 @@
 -- A legal 268 bytes loads to a legal machine whose saved form is those bytes, and a legal machine's saved form is legal and loads to it.
--- Assumes nothing.
 use mathlib.Core.Path.{_≡_, _∙_, refl, sym, ap}
 use mathlib.Core.Bool.{Bool, true, false, _&&_}
 use mathlib.Core.List.{List, [], _∷_, _++_}

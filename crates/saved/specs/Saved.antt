@@ -1,9 +1,10 @@
--- A machine as 268 bytes, and which bytes are a machine (01 "Numbers the encoder sees"). Assumes nothing.
+-- A machine as 268 bytes, and which bytes are a machine (01 "Numbers the encoder sees").
 use mathlib.Core.Bool.{Bool, true, _&&_}
 use mathlib.Core.List.{List, [], _∷_, _++_}
 use Prim.Native.Nat.{ℕ, zero, suc, _+_}
 use lib.Dec.{eqb, leb}
 use lib.ListN.{getD, length, take}
+use Rattle.numbers.specs.Numbers.{refusedMachine, refusedLength, fileLength, savedLength}
 use Rattle.word.specs.Choose.{pick, oneIf}
 use Rattle.word.specs.Fields.{bitOf, lower, wordOf, highByte, lowByte}
 use Rattle.timers.specs.Control.{orHighest}
@@ -26,7 +27,7 @@ timerOf prescaler counter = record { prescaler = prescaler; counter = orHighest 
 unfoldable pub machineOf : List ℕ → Machine
 machineOf s =
     record {
-      regs = take 256 s;
+      regs = take fileLength s;
       pc = wordOf (byte s 256) (byte s 257);
       divider = byte s 258;
       t0 = timerOf (byte s 259) (byte s 260);
@@ -92,11 +93,11 @@ firstOf (n ∷ ns) = pick (eqb n 0) (firstOf ns) n
 
 -- "saved machine not 268 bytes"
 abbrev pub lengthRefusal : List ℕ → ℕ
-lengthRefusal s = pick (eqb (length s) 268) 0 7
+lengthRefusal s = pick (eqb (length s) savedLength) 0 refusedLength
 
 -- "saved machine not legal"
 abbrev pub legalRefusal : List ℕ → ℕ
-legalRefusal s = pick (legalOf s) 0 6
+legalRefusal s = pick (legalOf s) 0 refusedMachine
 
 unfoldable pub refusalOf : List ℕ → ℕ
 refusalOf s = firstOf (lengthRefusal s ∷ legalRefusal s ∷ [])

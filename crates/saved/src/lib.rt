@@ -1,12 +1,14 @@
 // A machine as 268 bytes, and back (01 "Numbers the encoder sees").
 ghost use mathlib.Core.Path.{_≡_};
 ghost use lib.ListN.{length, take};
-ghost use Rattle.word.specs.Choose.{oneIf};
+ghost use Rattle.numbers.specs.Numbers.{fileLength, savedLength};
 ghost use Rattle.word.specs.Fields.{lowByte};
 ghost use Rattle.machine.specs.Legal.{Legal};
 ghost use Rattle.saved.specs.Saved.{timerOf, restOf, machineOf, savedOf, countsFit, ownFit, holesEmpty, bitsClear, legalOf, refusalOf};
 ghost use Rattle.saved.specs.ForCode.{loadOf};
+use machine::File;
 use machine::Machine;
+use machine::names;
 use timers::Timer;
 
 // What a saved machine loads to: a refusal's number, 7 or 6, or 0 and the machine. (A refused answer holds the standard machine, as it
@@ -29,13 +31,13 @@ fn copy(to: &mut [u8], from: &[u8])
     }
 }
 
-// The first 256 bytes.
-fn file_of(saved: &[u8]) -> [u8; 256]
-    requires { ⌜ length (now saved) ≡ 268 ⌝ }
-    ensures { λ r. ⌜ r ≡ take 256 (now (saved .entry)) ⌝ }
+// The bytes of the register file, which are the first.
+fn file_of(saved: &[u8]) -> File
+    requires { ⌜ length (now saved) ≡ savedLength ⌝ }
+    ensures { λ r. ⌜ r ≡ take fileLength (now (saved .entry)) ⌝ }
 {
-    let mut file = [0u8; 256];
-    copy(&mut file, &saved[0..256]);
+    let mut file = [0u8; numbers::FILE_LENGTH];
+    copy(&mut file, &saved[0..numbers::FILE_LENGTH]);
     file
 }
 
@@ -57,7 +59,7 @@ fn timer_of(prescaler: u8, counter: u8) -> Timer
 }
 
 fn machine_of(saved: &[u8]) -> Machine
-    requires { ⌜ length (now saved) ≡ 268 ⌝ }
+    requires { ⌜ length (now saved) ≡ savedLength ⌝ }
     ensures { λ m. ⌜ m ≡ machineOf (now (saved .entry)) ⌝ }
 {
     let regs = file_of(saved);
@@ -96,11 +98,11 @@ fn own_fit(cost: u8, tout: u8, kind: u8, spare: u8) -> bool
 
 // "places 80 to EF and F0 (hexadecimal) zero"
 fn holes_empty(saved: &[u8]) -> bool
-    requires { ⌜ length (now saved) ≡ 268 ⌝ }
+    requires { ⌜ length (now saved) ≡ savedLength ⌝ }
     ensures { λ r. ⌜ r ≡ holesEmpty (now (saved .entry)) ⌝ }
 {
     let mut i: usize = 0x80;
-    while i < 0xF1 {
+    while i <= names::SIO as usize {
         if saved[i] != 0 {
             return false;
         }
@@ -122,13 +124,17 @@ fn bits_clear(tmr: u8, irq: u8, rp: u8) -> bool
 }
 
 fn is_legal(saved: &[u8]) -> bool
-    requires { ⌜ length (now saved) ≡ 268 ⌝ }
+    requires { ⌜ length (now saved) ≡ savedLength ⌝ }
     ensures { λ r. ⌜ r ≡ legalOf (now (saved .entry)) ⌝ }
 {
     let counts = counts_fit(saved[258], saved[259], saved[261]);
     let own = own_fit(saved[266], saved[264], saved[265], saved[267]);
     let holes = holes_empty(saved);
-    let bits = bits_clear(saved[0xF1], saved[0xFA], saved[0xFD]);
+    let bits = bits_clear(
+        saved[names::TMR as usize],
+        saved[names::IRQ as usize],
+        saved[names::RP as usize],
+    );
     counts & own & holes & bits
 }
 
@@ -136,11 +142,15 @@ fn is_legal(saved: &[u8]) -> bool
 pub fn check(saved: &[u8]) -> u8
     ensures { λ r. ⌜ r ≡ refusalOf (now (saved .entry)) ⌝ }
 {
-    if saved.len() != 268 {
-        return 7;
+    if saved.len() != numbers::SAVED_LENGTH {
+        return numbers::REFUSED_LENGTH;
     }
     let legal = is_legal(saved);
-    if legal { 0 } else { 6 }
+    if legal {
+        numbers::DONE
+    } else {
+        numbers::REFUSED_MACHINE
+    }
 }
 
 pub fn load(saved: &[u8]) -> Loaded
@@ -148,13 +158,13 @@ pub fn load(saved: &[u8]) -> Loaded
     ensures legal { λ r. ⌜ (r .refusal ≡ 0 → Legal (r .machine)) ⌝ }
 {
     let refusal = check(saved);
-    if refusal != 0 {
+    if refusal != numbers::DONE {
         let machine = Machine::default();
         return Loaded { refusal, machine };
     }
     let machine = machine_of(saved);
     Loaded {
-        refusal: 0,
+        refusal: numbers::DONE,
         machine,
     }
 }
@@ -163,12 +173,6 @@ fn low(n: u32) -> u8
     ensures { λ r. ⌜ r ≡ lowByte n ⌝ }
 {
     (n % 256) as u8
-}
-
-fn one_if(b: bool) -> u8
-    ensures { λ r. ⌜ r ≡ oneIf b ⌝ }
-{
-    if b { 1 } else { 0 }
 }
 
 // The last twelve bytes.
@@ -184,7 +188,7 @@ fn rest_of(m: Machine) -> [u8; 12]
     let counter0 = low(t0.counter);
     let prescaler1 = low(t1.prescaler);
     let counter1 = low(t1.counter);
-    let tout = one_if(m.tout);
+    let tout = word::bits_if(m.tout, 1);
     [
         pc_high,
         pc_low,
@@ -203,11 +207,11 @@ fn rest_of(m: Machine) -> [u8; 12]
 
 // A machine into its 268 bytes.
 pub fn save(saved: &mut [u8], m: Machine)
-    requires { ⌜ length (now saved) ≡ 268 ⌝ }
+    requires { ⌜ length (now saved) ≡ savedLength ⌝ }
     ensures { λ _. ⌜ now (saved .exit) ≡ savedOf m ⌝ }
 {
     let file = m.regs;
     let rest = rest_of(m);
-    copy(&mut saved[0..256], &file);
-    copy(&mut saved[256..], &rest);
+    copy(&mut saved[0..numbers::FILE_LENGTH], &file);
+    copy(&mut saved[numbers::FILE_LENGTH..], &rest);
 }

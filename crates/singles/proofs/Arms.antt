@@ -1,4 +1,4 @@
--- A law for each opcode of this room, and where it has none. Assumes nothing.
+-- A law for each opcode of this room, and where it has none.
 use mathlib.Core.Path.{_≡_, refl, _∙_}
 use mathlib.Core.Bool.{Bool, true, false, not, _&&_, _||_}
 use mathlib.Core.List.{List}

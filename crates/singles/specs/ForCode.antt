@@ -1,4 +1,4 @@
--- For the contract of the code alone, which knows these instructions by their opcodes: nothing here has to be believed. Assumes nothing.
+-- For the contract of the code alone, which knows these instructions by their opcodes: nothing here has to be believed.
 use mathlib.Core.Path.{_≡_}
 use mathlib.Core.Bool.{Bool, not, _&&_}
 use Prim.Native.Nat.{ℕ, _≤_, _<_}

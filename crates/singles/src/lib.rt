@@ -1,6 +1,7 @@
 // The instructions of columns 2 to 7 whose rows don't go by the column: LDE, LDEI, LDC, LDCI, CALL, and LD of rows C, D and F.
 use deeds::Code;
 use lent::Rest;
+use machine::File;
 use machine::Pins;
 ghost use mathlib.Core.Path.{_≡_};
 ghost use Rattle.machine.specs.Registers.{writeReg};
@@ -10,15 +11,15 @@ ghost use Rattle.execute.specs.ForCode.{performed, instructionAt};
 ghost use Rattle.singles.specs.ForCode.{Single};
 
 // "LDCI and LDEI store, then add one" to the register and to the pair.
-fn block(regs: &mut [u8; 256], rest: &mut Rest, pins: Pins, dst: u8, v: u8, r: u8, rr: u8)
+fn block(regs: &mut File, rest: &mut Rest, pins: Pins, dst: u8, v: u8, r: u8, rr: u8)
     ensures { λ _. ⌜ machineIn (now (regs .exit)) (now (rest .exit)) ≡ pairCountedUp pins (countedUp pins (writeReg (machineIn (now (regs .entry)) (now (rest .entry))) dst v) r) rr ⌝ }
 {
-    lent::registers::write(regs, rest, dst, v);
+    registers::write(regs, rest, dst, v);
     execute::doing::count_up(regs, rest, pins, r, rr);
 }
 
 pub fn singles(
-    regs: &mut [u8; 256],
+    regs: &mut File,
     rest: &mut Rest,
     pins: Pins,
     mem: &mut [u8],
@@ -29,49 +30,49 @@ pub fn singles(
     requires { ⌜ Single (machineIn (now regs) (now rest)) pc i ⌝ }
     ensures { λ r. ⌜ performed (machineIn (now (regs .exit)) (now (rest .exit))) (now (mem .exit)) r ≡ instructionAt pins (now (image .entry)) (now (mem .entry)) (machineIn (now (regs .entry)) (now (rest .entry))) pc i ⌝ }
 {
-    let r = lent::addresses::working(regs, rest, i.first / 16);
-    let x = lent::addresses::working(regs, rest, i.first % 16);
-    let pointed = lent::addresses::read_pair(regs, rest, pins, x);
+    let r = registers::addresses::working(regs, rest, i.first / 16);
+    let x = registers::addresses::working(regs, rest, i.first % 16);
+    let pointed = registers::addresses::read_pair(regs, rest, pins, x);
     let op = i.op;
     match op {
         0x82 => {
             let v = lent::memory::load(rest, mem, pointed);
-            lent::registers::write(regs, rest, r, v);
+            registers::write(regs, rest, r, v);
             12
         }
         0x83 => {
-            let to = lent::registers::read(regs, rest, pins, r);
+            let to = registers::read(regs, rest, pins, r);
             let v = lent::memory::load(rest, mem, pointed);
             block(regs, rest, pins, to, v, r, x);
             18
         }
         0x92 => {
-            let v = lent::registers::read(regs, rest, pins, r);
+            let v = registers::read(regs, rest, pins, r);
             lent::memory::store(rest, mem, pointed, v);
             12
         }
         0x93 => {
-            let from = lent::registers::read(regs, rest, pins, r);
-            let v = lent::registers::read(regs, rest, pins, from);
+            let from = registers::read(regs, rest, pins, r);
+            let v = registers::read(regs, rest, pins, from);
             lent::memory::store(rest, mem, pointed, v);
             execute::doing::count_up(regs, rest, pins, r, x);
             18
         }
         0xC2 => {
             let v = machine::memory::program(image, pointed);
-            lent::registers::write(regs, rest, r, v);
+            registers::write(regs, rest, r, v);
             12
         }
         0xC3 => {
-            let to = lent::registers::read(regs, rest, pins, r);
+            let to = registers::read(regs, rest, pins, r);
             let v = machine::memory::program(image, pointed);
             block(regs, rest, pins, to, v, r, x);
             18
         }
         0xC7 => {
-            let a = lent::addresses::indexed(regs, rest, pins, i.second, i.first % 16);
-            let v = lent::registers::read(regs, rest, pins, a);
-            lent::registers::write(regs, rest, r, v);
+            let a = registers::addresses::indexed(regs, rest, pins, i.second, i.first % 16);
+            let v = registers::read(regs, rest, pins, a);
+            registers::write(regs, rest, r, v);
             10
         }
         0xD2 => 12,
@@ -82,8 +83,8 @@ pub fn singles(
         0xD4 => {
             let next = word::plus(pc, 2);
             lent::set_pc(regs, rest, next);
-            let a = lent::addresses::register(regs, rest, i.first);
-            let to = lent::addresses::read_pair(regs, rest, pins, a);
+            let a = registers::addresses::register(regs, rest, i.first);
+            let to = registers::addresses::read_pair(regs, rest, pins, a);
             execute::doing::call(regs, rest, mem, to);
             20
         }
@@ -93,22 +94,22 @@ pub fn singles(
             20
         }
         0xD7 => {
-            let a = lent::addresses::indexed(regs, rest, pins, i.second, i.first % 16);
-            let v = lent::registers::read(regs, rest, pins, r);
-            lent::registers::write(regs, rest, a, v);
+            let a = registers::addresses::indexed(regs, rest, pins, i.second, i.first % 16);
+            let v = registers::read(regs, rest, pins, r);
+            registers::write(regs, rest, a, v);
             10
         }
         0xF3 => {
-            let to = lent::registers::read(regs, rest, pins, r);
-            let v = lent::registers::read(regs, rest, pins, x);
-            lent::registers::write(regs, rest, to, v);
+            let to = registers::read(regs, rest, pins, r);
+            let v = registers::read(regs, rest, pins, x);
+            registers::write(regs, rest, to, v);
             6
         }
         0xF5 => {
-            let a = lent::addresses::register(regs, rest, i.first);
-            let v = lent::registers::read(regs, rest, pins, a);
-            let to = lent::addresses::indirect(regs, rest, pins, i.second);
-            lent::registers::write(regs, rest, to, v);
+            let a = registers::addresses::register(regs, rest, i.first);
+            let v = registers::read(regs, rest, pins, a);
+            let to = registers::addresses::indirect(regs, rest, pins, i.second);
+            registers::write(regs, rest, to, v);
             10
         }
         _ => execute::doing::refused(regs, rest, pc),

@@ -1,4 +1,4 @@
--- What is done, by what is granted and by the map's entry; and what it comes to where the pins given are the last already. Assumes nothing.
+-- What is done, by what is granted and by the map's entry; and what it comes to where the pins given are the last already.
 use mathlib.Core.Path.{_≡_, refl, ap, sym, _∙_, subst}
 use mathlib.Core.Bool.{Bool, true, false}
 use mathlib.Core.List.{List, [], _∷_}

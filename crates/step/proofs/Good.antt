@@ -1,4 +1,4 @@
--- A step either is refused, and then nothing is changed, or costs 6 to 63 cycles and leaves a legal machine and bytes. Assumes nothing.
+-- A step either is refused, and then nothing is changed, or costs 6 to 63 cycles and leaves a legal machine and bytes.
 use mathlib.Core.Path.{_≡_, refl, ap, sym, _∙_}
 use mathlib.Core.List.{List, [], _∷_}
 use Prim.Native.Nat.{ℕ, zero, suc, _+_, _≤_, _<_}

@@ -1,4 +1,4 @@
--- What the order asks of a step and a run beyond the contracts. Assumes nothing.
+-- What the order asks of a step and a run beyond the contracts.
 use mathlib.Core.Path.{_≡_, refl, ap, sym, _∙_, subst}
 use mathlib.Core.Bool.{true, false, _&&_}
 use mathlib.Core.List.{List}
@@ -27,7 +27,8 @@ use Rattle.interrupts.specs.Edges.{comparedOf}
 use Rattle.interrupts.specs.Grants.{grantOf}
 use Rattle.interrupts.specs.declared.grants.Grant.the-variants as grant
 use Rattle.step.specs.Step.{Progress, clockedOn, stepOf}
-use Rattle.step.specs.Run.{nothingDone, goesOn, oneMore, stepsOf, budgetLimit, budgetRefusal, runOf}
+use Rattle.numbers.specs.Numbers.{refusedBudget, budgetMost}
+use Rattle.step.specs.Run.{nothingDone, goesOn, oneMore, stepsOf, budgetRefusal, runOf}
 use Rattle.step.proofs.Acts.{blank-refused, kind-taken, request-taken}
 use Rattle.step.proofs.Good.{Taken, Good, unclocked, step-good}
 use Rattle.step.proofs.Good.Good.{refused, taken}
@@ -172,6 +173,6 @@ unfolding runOf stepsOf
 run-nothing p image mem m = iter-zero (oneMore p image 0) (nothingDone 0 m mem)
 
 -- over 1,000,000: 4, and nothing is changed
-pub run-refused : (p : Pins) (image mem : List ℕ) (m : Machine) (budget : ℕ) → budgetLimit < budget → runOf p image mem m budget ≡ nothingDone 4 m mem
+pub run-refused : (p : Pins) (image mem : List ℕ) (m : Machine) (budget : ℕ) → budgetMost < budget → runOf p image mem m budget ≡ nothingDone refusedBudget m mem
 unfolding runOf
-run-refused p image mem m budget h = let over : ltb budgetLimit budget ≡ true = lt-ltb budgetLimit budget h in rw over
+run-refused p image mem m budget h = let over : ltb budgetMost budget ≡ true = lt-ltb budgetMost budget h in rw over

@@ -1,4 +1,4 @@
--- A run, turn by turn: what holds of it so far, and that it is the definition's. Assumes nothing.
+-- A run, turn by turn: what holds of it so far, and that it is the definition's.
 use mathlib.Core.Path.{_≡_, refl, ap, sym, _∙_, subst}
 use mathlib.Core.Bool.{true, false, and-false}
 use mathlib.Core.List.{List}

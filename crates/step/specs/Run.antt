@@ -1,8 +1,9 @@
--- The bounded run (01 "One step", "Numbers the encoder sees"). Assumes nothing.
+-- The bounded run (01 "One step", "Numbers the encoder sees").
 use mathlib.Core.Bool.{_&&_}
 use mathlib.Core.List.{List}
 use Prim.Native.Nat.{ℕ, _+_}
 use lib.Dec.{eqb, ltb}
+use Rattle.numbers.specs.Numbers.{refusedBudget, budgetMost}
 use Rattle.word.specs.Choose.{pick}
 use Rattle.timers.specs.Iter.{iter}
 use Rattle.machine.specs.declared.Machine.{Machine}
@@ -38,11 +39,8 @@ unfoldable pub stepsOf : Pins → List ℕ → List ℕ → Machine → ℕ → 
 stepsOf p image mem m budget = iter budget (oneMore p image budget) (nothingDone 0 m mem)
 
 -- refusal 4: "run budget over 1,000,000 cycles"
-abbrev pub budgetLimit : ℕ
-budgetLimit = 1000000
-
 abbrev pub budgetRefusal : ℕ → ℕ
-budgetRefusal budget = pick (ltb budgetLimit budget) 4 0
+budgetRefusal budget = pick (ltb budgetMost budget) refusedBudget 0
 
 -- "nothing changed" where it is refused. (The refusals that come before are about what a caller lends, and are given where it is lent.)
 unfoldable pub runOf : Pins → List ℕ → List ℕ → Machine → ℕ → Progress

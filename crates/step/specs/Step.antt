@@ -1,4 +1,4 @@
--- One step (01 "One step"). Assumes nothing.
+-- One step (01 "One step").
 use mathlib.Core.List.{List}
 use Prim.Native.Nat.{ℕ, _+_}
 use lib.Dec.{eqb}

@@ -1,19 +1,22 @@
 // The whole chip: one step, the bounded run, the span (01 "One step"). A `Machine` goes by value; below `step` and `run` it is lent.
 use interrupts::grants::Grant;
 use lent::Rest;
+use machine::File;
 use machine::Machine;
 use machine::Pins;
+use machine::names;
 ghost use mathlib.Core.Path.{_≡_};
 ghost use mathlib.Core.Bool.{true, false};
 ghost use mathlib.Core.List.{List};
 ghost use Prim.Native.Nat.{ℕ, _≤_};
+ghost use Rattle.numbers.specs.Numbers.{refusedOpcode, budgetMost};
 ghost use Rattle.machine.specs.Legal.{Legal};
 ghost use Rattle.machine.specs.Clock.{spanOf};
 ghost use Rattle.lent.specs.View.{coreIn, machineIn};
 ghost use Rattle.execute.specs.ForCode.{performed, performedBy};
 ghost use Rattle.interrupts.specs.Grants.{grantOf};
 ghost use Rattle.step.specs.Step.{grantedOr, stepOf};
-ghost use Rattle.step.specs.Run.{nothingDone, budgetLimit, stepsOf, runOf};
+ghost use Rattle.step.specs.Run.{nothingDone, stepsOf, runOf};
 ghost use Rattle.step.specs.ForCode.{progressOf, isRefusedOf, steppedOf, passedOf};
 
 // What a step or a run comes to, beside the machine and the data memory that were lent.
@@ -40,19 +43,13 @@ pub struct Passed {
     pub machine: Machine,
 }
 
-// 01: a run budget over 1,000,000 cycles is refused.
-pub const BUDGET_LIMIT: u32 = 1000000;
-
-// 01: an undefined opcode is refused.
-const OPCODE_UNDEFINED: u8 = 5;
-
 // A grant, or else an instruction, where the pins have been compared: its cycles, or 0 where it is refused.
-fn act(regs: &mut [u8; 256], rest: &mut Rest, pins: Pins, image: &[u8], mem: &mut [u8]) -> u32
+fn act(regs: &mut File, rest: &mut Rest, pins: Pins, image: &[u8], mem: &mut [u8]) -> u32
     ensures { λ r. ⌜ performed (machineIn (now (regs .exit)) (now (rest .exit))) (now (mem .exit)) r ≡ performedBy (machineIn (now (regs .entry)) (now (rest .entry))) (now (mem .entry)) (grantedOr pins (now (image .entry)) (now (mem .entry)) (machineIn (now (regs .entry)) (now (rest .entry))) (grantOf (machineIn (now (regs .entry)) (now (rest .entry))))) ⌝ }
 {
-    let irq = machine::file::held(regs, 0xFA);
-    let imr = machine::file::held(regs, 0xFB);
-    let ipr = machine::file::held(regs, 0xF9);
+    let irq = machine::file::held(regs, names::IRQ);
+    let imr = machine::file::held(regs, names::IMR);
+    let ipr = machine::file::held(regs, names::IPR);
     let g = interrupts::grants::granted(irq, imr, ipr);
     match g {
         Grant::Nothing => perform::execute_here(regs, rest, pins, mem, image),
@@ -65,7 +62,7 @@ fn act(regs: &mut [u8; 256], rest: &mut Rest, pins: Pins, image: &[u8], mem: &mu
 }
 
 // One step on a lent machine, where the pins given are the last already, so that there is nothing to compare.
-fn step_in(regs: &mut [u8; 256], rest: &mut Rest, pins: Pins, image: &[u8], mem: &mut [u8]) -> Went
+fn step_in(regs: &mut File, rest: &mut Rest, pins: Pins, image: &[u8], mem: &mut [u8]) -> Went
     requires { ⌜ Legal (machineIn (now regs) (now rest)) ⌝ }
     requires { ⌜ coreIn (now rest) .last3 ≡ pins .port3 ⌝ }
     ensures { λ r. ⌜ progressOf (machineIn (now (regs .exit)) (now (rest .exit))) (now (mem .exit)) r ≡ stepOf pins (now (image .entry)) (now (mem .entry)) (machineIn (now (regs .entry)) (now (rest .entry))) ⌝ }
@@ -73,15 +70,15 @@ fn step_in(regs: &mut [u8; 256], rest: &mut Rest, pins: Pins, image: &[u8], mem:
     let cycles = act(regs, rest, pins, image, mem);
     if cycles == 0 {
         return Went {
-            refusal: OPCODE_UNDEFINED,
+            refusal: numbers::REFUSED_OPCODE,
             cycles: 0,
             ends0: 0,
             ends1: 0,
         };
     }
-    let e = lent::clock::span(regs, rest, cycles);
+    let e = clock::span(regs, rest, cycles);
     Went {
-        refusal: 0,
+        refusal: numbers::DONE,
         cycles,
         ends0: e.ends0,
         ends1: e.ends1,
@@ -90,15 +87,15 @@ fn step_in(regs: &mut [u8; 256], rest: &mut Rest, pins: Pins, image: &[u8], mem:
 
 // Whether the next step is refused: nothing is granted, the edges counted, and the opcode is undefined. That is known before anything is
 // stored.
-fn is_refused(regs: &[u8; 256], rest: &Rest, pins: Pins, image: &[u8]) -> bool
+fn is_refused(regs: &File, rest: &Rest, pins: Pins, image: &[u8]) -> bool
     requires { ⌜ Legal (machineIn (now regs) (now rest)) ⌝ }
     ensures { λ r. ⌜ r ≡ isRefusedOf pins (now (image .entry)) (machineIn (now (regs .entry)) (now (rest .entry))) ⌝ }
-    ensures refused { λ r. ⌜ (r ≡ true → (mem : List ℕ) → stepOf pins (now (image .entry)) mem (machineIn (now (regs .entry)) (now (rest .entry))) ≡ nothingDone 5 (machineIn (now (regs .entry)) (now (rest .entry))) mem) ⌝ }
+    ensures refused { λ r. ⌜ (r ≡ true → (mem : List ℕ) → stepOf pins (now (image .entry)) mem (machineIn (now (regs .entry)) (now (rest .entry))) ≡ nothingDone refusedOpcode (machineIn (now (regs .entry)) (now (rest .entry))) mem) ⌝ }
     ensures taken { λ r. ⌜ (r ≡ false → (mem : List ℕ) → stepOf pins (now (image .entry)) mem (machineIn (now (regs .entry)) (now (rest .entry))) .refusal ≡ 0) ⌝ }
 {
     let irq = interrupts::edges::requests(regs, rest, pins.port3);
-    let imr = machine::file::held(regs, 0xFB);
-    let ipr = machine::file::held(regs, 0xF9);
+    let imr = machine::file::held(regs, names::IMR);
+    let ipr = machine::file::held(regs, names::IPR);
     let standing = interrupts::grants::standing(irq, imr);
     let g = interrupts::grants::highest(standing, ipr);
     match g {
@@ -114,7 +111,7 @@ fn is_refused(regs: &[u8; 256], rest: &Rest, pins: Pins, image: &[u8]) -> bool
 // Steps in turn until their cycles reach the budget, or one is refused. "A run holds the pins": after the first step they are the last, so
 // they are compared once, before the steps, where the first is not refused.
 fn steps(
-    regs: &mut [u8; 256],
+    regs: &mut File,
     rest: &mut Rest,
     pins: Pins,
     image: &[u8],
@@ -122,12 +119,12 @@ fn steps(
     budget: u32,
 ) -> Went
     requires { ⌜ Legal (machineIn (now regs) (now rest)) ⌝ }
-    requires { ⌜ budget ≤ budgetLimit ⌝ }
+    requires { ⌜ budget ≤ budgetMost ⌝ }
     ensures { λ r. ⌜ progressOf (machineIn (now (regs .exit)) (now (rest .exit))) (now (mem .exit)) r ≡ stepsOf pins (now (image .entry)) (now (mem .entry)) (machineIn (now (regs .entry)) (now (rest .entry))) budget ⌝ }
 {
     if budget == 0 {
         return Went {
-            refusal: 0,
+            refusal: numbers::DONE,
             cycles: 0,
             ends0: 0,
             ends1: 0,
@@ -136,7 +133,7 @@ fn steps(
     let refused = is_refused(regs, rest, pins, image);
     if refused {
         return Went {
-            refusal: OPCODE_UNDEFINED,
+            refusal: numbers::REFUSED_OPCODE,
             cycles: 0,
             ends0: 0,
             ends1: 0,
@@ -147,7 +144,7 @@ fn steps(
     let mut ends1 = interrupts::edges::compare(regs, rest, pins.port3);
     while cycles < budget {
         let s = step_in(regs, rest, pins, image, mem);
-        if s.refusal != 0 {
+        if s.refusal != numbers::DONE {
             return Went {
                 refusal: s.refusal,
                 cycles,
@@ -160,7 +157,7 @@ fn steps(
         ends1 = ends1 + s.ends1;
     }
     Went {
-        refusal: 0,
+        refusal: numbers::DONE,
         cycles,
         ends0,
         ends1,
@@ -172,9 +169,9 @@ pub fn run(m: Machine, pins: Pins, image: &[u8], mem: &mut [u8], budget: u32) ->
     requires { ⌜ Legal m ⌝ }
     ensures { λ r. ⌜ steppedOf (now (mem .exit)) r ≡ runOf pins (now (image .entry)) (now (mem .entry)) m budget ⌝ }
 {
-    if BUDGET_LIMIT < budget {
+    if numbers::BUDGET_MOST < budget {
         return Stepped {
-            refusal: 4,
+            refusal: numbers::REFUSED_BUDGET,
             cycles: 0,
             ends0: 0,
             ends1: 0,
@@ -209,7 +206,7 @@ pub fn span(m: Machine, n: u32) -> Passed
 {
     let mut regs = m.regs;
     let mut rest = lent::lend(m);
-    let e = lent::clock::long_span(&mut regs, &mut rest, n);
+    let e = clock::long_span(&mut regs, &mut rest, n);
     let machine = lent::machine_of(regs, &rest);
     Passed {
         ends0: e.ends0,

@@ -1,4 +1,4 @@
--- Cycles are ticks of the divider, and ticks of both timers are ticks of each. Nothing here looks into a tick or an end. Assumes nothing.
+-- Cycles are ticks of the divider, and ticks of both timers are ticks of each. Nothing here looks into a tick or an end.
 use mathlib.Core.Path.{_≡_, refl, ap, sym, _∙_, subst}
 use mathlib.Core.Bool.{Bool, true, false, _&&_}
 use Prim.Native.Nat.{ℕ, zero, suc, _+_, _/_, _%_, _<_}

@@ -1,4 +1,4 @@
--- The ticks of one timer, by division: each law is about the definition's ticks one by one, from whatever source they come. Assumes nothing.
+-- The ticks of one timer, by division: each law is about the definition's ticks one by one, from whatever source they come.
 use mathlib.Core.Path.{_≡_, refl, ap, sym, _∙_, subst}
 use mathlib.Core.Bool.{Bool, true, false, not, _||_}
 use Prim.Native.Nat.{ℕ, zero, suc, _+_, _-_, _*_, _/_, _%_, _≤_, _<_}

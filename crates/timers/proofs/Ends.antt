@@ -1,4 +1,4 @@
--- What some ends of a timer do, by their number. Assumes nothing.
+-- What some ends of a timer do, by their number.
 use mathlib.Core.Path.{_≡_, refl, ap, _∙_}
 use mathlib.Core.Bool.{Bool, true, false, not}
 use Prim.Native.Nat.{ℕ, zero, suc, _%_, _<_}

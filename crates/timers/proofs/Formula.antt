@@ -1,4 +1,4 @@
--- The ends of a steady timer, by one division. Assumes nothing.
+-- The ends of a steady timer, by one division.
 use mathlib.Core.Path.{_≡_, refl, ap, ap₂, sym, _∙_}
 use mathlib.Core.Bool.{true}
 use Prim.Native.Nat.{ℕ, _+_, _-_, _*_, _/_, _≤_, _<_}

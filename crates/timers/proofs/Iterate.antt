@@ -1,4 +1,4 @@
--- Laws of a function done so many times: a proof that goes by these keeps `iter` shut. Assumes nothing.
+-- Laws of a function done so many times: a proof that goes by these keeps `iter` shut.
 use mathlib.Core.Path.{_≡_, refl, ap, sym, _∙_}
 use Prim.Native.Nat.{ℕ, zero, suc, _+_}
 use native.Mathlib.Nat.{zero-add, suc-add, add-comm}

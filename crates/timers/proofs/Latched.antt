@@ -1,4 +1,4 @@
--- Laws of a latched request: often is as good as once, and the order doesn't matter. Assumes nothing.
+-- Laws of a latched request: often is as good as once, and the order doesn't matter.
 use mathlib.Core.Path.{_≡_, refl, ap, ap₂, sym, _∙_}
 use Prim.Native.Nat.{ℕ, zero, suc, _+_, _*_, _/_, _%_, _^_, _<_, max}
 use native.Mathlib.Omega.{arith}

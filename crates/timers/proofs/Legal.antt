@@ -1,4 +1,4 @@
--- What the control registers say is legal, and cycles, edges and writes to TMR keep what is legal. Assumes nothing.
+-- What the control registers say is legal, and cycles, edges and writes to TMR keep what is legal.
 use mathlib.Core.Path.{_≡_, refl}
 use mathlib.Core.Bool.{Bool, true, false}
 use Prim.Native.Nat.{ℕ, _+_, _-_, _/_, _%_, _≤_, _<_}

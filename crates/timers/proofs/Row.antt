@@ -1,4 +1,4 @@
--- Cycles in a row: a cycles and then b are a + b, and their ends add up. Assumes nothing.
+-- Cycles in a row: a cycles and then b are a + b, and their ends add up.
 use mathlib.Core.Path.{_≡_, refl, ap, _∙_}
 use mathlib.Core.Bool.{Bool, true, false}
 use Prim.Native.Nat.{ℕ, _+_, _%_}

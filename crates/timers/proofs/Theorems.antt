@@ -1,4 +1,4 @@
--- What the definitions promise besides. Assumes nothing.
+-- What the definitions promise besides.
 use mathlib.Core.Path.{_≡_, refl}
 use mathlib.Core.Bool.{and-false}
 use Prim.Native.Nat.{ℕ, zero, suc, _+_, _%_, _≤_}

@@ -1,4 +1,4 @@
--- The divider and both timers, one cycle at a time (01 "The timers", "One step"). Assumes nothing.
+-- The divider and both timers, one cycle at a time (01 "The timers", "One step").
 use mathlib.Core.Path.{_≡_}
 use mathlib.Core.Bool.{Bool, true, not, _&&_, _||_}
 use Prim.Native.Nat.{ℕ, _+_, _-_, _*_, _%_, _≤_, _<_}

@@ -1,4 +1,4 @@
--- What the control registers F1 to F5 and P31 tell the timers (01 "The timers"; 002, R241 to R245). Assumes nothing.
+-- What the control registers F1 to F5 and P31 tell the timers (01 "The timers"; 002, R241 to R245).
 use mathlib.Core.Bool.{Bool, true, false, not, _&&_, _||_}
 use Prim.Native.Nat.{ℕ, _/_, _%_, _<_}
 use lib.Dec.{eqb}

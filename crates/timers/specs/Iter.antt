@@ -1,4 +1,4 @@
--- A function done so many times. Assumes nothing.
+-- A function done so many times.
 use Prim.Native.Nat.{ℕ, zero, suc}
 
 -- f done k times to x

@@ -1,4 +1,4 @@
--- The request register IRQ, whose "Bits D_0-D_5 are assigned to interrupt requests" 0 to 5 (004, 10.4.3). Assumes nothing.
+-- The request register IRQ, whose "Bits D_0-D_5 are assigned to interrupt requests" 0 to 5 (004, 10.4.3).
 use Prim.Native.Nat.{ℕ, _^_}
 use lib.Bits.{bitOr}
 

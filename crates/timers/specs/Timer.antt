@@ -1,4 +1,4 @@
--- One timer, T0 or T1 alike (01 "The timers"; 004 11.3). Assumes nothing.
+-- One timer, T0 or T1 alike (01 "The timers"; 004 11.3).
 use mathlib.Core.Bool.{Bool, false, _&&_}
 use Prim.Native.Nat.{ℕ, _-_, _≤_, _<_}
 use lib.Dec.{ltb}

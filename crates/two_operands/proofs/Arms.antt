@@ -1,4 +1,4 @@
--- Columns 2 to 7: a law for each sort of arm. Assumes nothing.
+-- Columns 2 to 7: a law for each sort of arm.
 use mathlib.Core.Path.{_≡_, refl, _∙_}
 use mathlib.Core.List.{List}
 use Prim.Native.Nat.{ℕ, _≤_, _<_, _+_}

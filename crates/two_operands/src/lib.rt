@@ -1,6 +1,7 @@
 // Columns 2 to 7 of the map: an instruction with two operands, by its row.
 use deeds::Code;
 use lent::Rest;
+use machine::File;
 use machine::Pins;
 use operands::Operands;
 ghost use mathlib.Core.Path.{_≡_};
@@ -9,7 +10,7 @@ ghost use Rattle.execute.specs.ForCode.{performed, instructionAt};
 ghost use Rattle.operands.specs.ForCode.{At};
 
 pub fn two(
-    regs: &mut [u8; 256],
+    regs: &mut File,
     rest: &mut Rest,
     pins: Pins,
     mem: &mut [u8],
@@ -25,7 +26,7 @@ pub fn two(
     let dst = o.dst;
     let src = o.src;
     // read once for all rows, as in `one_operand::one`
-    let was = lent::registers::read(regs, rest, pins, dst);
+    let was = registers::read(regs, rest, pins, dst);
     match row {
         0 => {
             let r = alu::arithmetic::add(was, src);
@@ -83,7 +84,7 @@ pub fn two(
             if i.op == 0xE2 {
                 return execute::doing::refused(regs, rest, pc);
             }
-            lent::registers::write(regs, rest, dst, src);
+            registers::write(regs, rest, dst, src);
             o.cycles
         }
         _ => singles::singles(regs, rest, pins, mem, image, pc, i),

@@ -1,5 +1,4 @@
 -- An operand byte's displacement as the code computes it: each fact at all 256 bytes by one computed test.
--- Assumes nothing.
 use mathlib.Core.Path.{_≡_, refl}
 use mathlib.Core.Bool.{true, false}
 use Prim.Native.Nat.{ℕ, _+_, _-_, _^_, _<_, _≤_, _%_}

@@ -1,5 +1,5 @@
 -- Choices, and computed tests: that a rule holds at every number below a bound is one test, which the checker computes; a law turns the
--- passed test into the rule at a number. Assumes nothing.
+-- passed test into the rule at a number.
 use mathlib.Core.Path.{_≡_, refl}
 use mathlib.Core.Bool.{Bool, true, false, not, _&&_, _||_}
 use mathlib.Core.List.{List, [], _∷_}

@@ -1,4 +1,4 @@
--- The displacement is exact at both ends and at the two bytes between them. Assumes nothing.
+-- The displacement is exact at both ends and at the two bytes between them.
 use mathlib.Core.Path.{_≡_, refl}
 use lib.IntN.{pos, negsuc}
 use Rattle.word.specs.Words.{dispOf}

@@ -1,4 +1,4 @@
--- Choosing by a test. Assumes nothing.
+-- Choosing by a test.
 use mathlib.Core.Bool.{Bool, true, false}
 use Prim.Native.Nat.{ℕ}
 

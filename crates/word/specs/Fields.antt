@@ -1,4 +1,4 @@
--- Fields of a byte, and a word's two bytes. Assumes nothing.
+-- Fields of a byte, and a word's two bytes.
 use mathlib.Core.Bool.{Bool}
 use Prim.Native.Nat.{ℕ, _+_, _*_, _/_, _%_, _^_}
 use lib.Dec.{eqb}

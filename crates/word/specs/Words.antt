@@ -1,4 +1,4 @@
--- Words modulo 65,536, and the signed displacement of an operand byte. Assumes nothing.
+-- Words modulo 65,536, and the signed displacement of an operand byte.
 use Prim.Native.Nat.{ℕ, _+_, _-_, _%_}
 use lib.IntN.{ℤ, pos, negsuc}
 use lib.Dec.{ltb}

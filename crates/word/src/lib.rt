@@ -1,6 +1,7 @@
 // Bytes and words, with no chip in them.
 ghost use mathlib.Core.Path.{_≡_};
-ghost use Prim.Native.Nat.{_<_};
+ghost use Prim.Native.Nat.{_<_, _≤_};
+ghost use Rattle.word.specs.Choose.{bitsIf};
 ghost use Rattle.word.specs.Fields.{bitOf, isSet, upper, lower, wordOf, highByte, lowByte};
 ghost use Rattle.word.specs.Words.{plus, dispOf, movedBy};
 
@@ -18,6 +19,14 @@ pub fn is_set(n: u8, v: u8) -> bool
     ensures { λ r. ⌜ r ≡ isSet n v ⌝ }
 {
     bit(n, v) == 1
+}
+
+// These bits where the test holds, else none.
+pub fn bits_if(test: bool, bits: u8) -> u8
+    ensures is { λ r. ⌜ r ≡ bitsIf test bits ⌝ }
+    ensures within { λ r. ⌜ r ≤ bits ⌝ }
+{
+    if test { bits } else { 0 }
 }
 
 // The upper four bits of v.

@@ -1,4 +1,4 @@
--- The first refusal that applies, where the first ones are known; and what a loaded machine is. Assumes nothing.
+-- The first refusal that applies, where the first ones are known; and what a loaded machine is.
 use mathlib.Core.Path.{_≡_, _∙_, refl, sym, ap}
 use mathlib.Core.List.{List, [], _∷_, _++_}
 use Prim.Native.Nat.{ℕ}

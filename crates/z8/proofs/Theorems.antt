@@ -1,4 +1,4 @@
--- What the order asks of the calls beyond their contracts. Assumes nothing.
+-- What the order asks of the calls beyond their contracts.
 use mathlib.Core.Path.{_≡_, _∙_, refl, sym, ap}
 use mathlib.Core.Bool.{true}
 use mathlib.Core.List.{List, [], _∷_}

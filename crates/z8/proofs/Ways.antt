@@ -1,4 +1,4 @@
--- A step, a run and a span of a loaded machine, as what is left behind. Assumes nothing.
+-- A step, a run and a span of a loaded machine, as what is left behind.
 use mathlib.Core.Path.{_≡_, _∙_, ap}
 use mathlib.Core.List.{List}
 use Prim.Native.Nat.{ℕ}

@@ -1,9 +1,10 @@
 -- What each call of the C library answers and leaves (01 "Numbers the encoder sees"): of all it was given, all that the caller can see
--- afterwards. Assumes nothing.
+-- afterwards.
 use mathlib.Core.List.{List, [], _∷_}
 use Prim.Native.Nat.{ℕ}
 use lib.Dec.{eqb, ltb}
 use lib.ListN.{length}
+use Rattle.numbers.specs.Numbers.{refusedImage, refusedData, imageMost, dataMost}
 use Rattle.word.specs.Choose.{pick}
 use Rattle.opcodes.specs.Instruction.{decodeOf, encodeOf}
 use Rattle.opcodes.specs.declared.Decoded.{Decoded}
@@ -69,11 +70,11 @@ pinsGiven pins0 pins1 pins2 pins3 = record { port0 = pins0; port1 = pins1; port2
 
 -- "program image over 65,536 bytes"
 abbrev pub imageRefusal : List ℕ → ℕ
-imageRefusal image = pick (ltb 65536 (length image)) 1 0
+imageRefusal image = pick (ltb imageMost (length image)) refusedImage 0
 
 -- "data memory over 65,536 bytes"
 abbrev pub memoryRefusal : List ℕ → ℕ
-memoryRefusal memory = pick (ltb 65536 (length memory)) 2 0
+memoryRefusal memory = pick (ltb dataMost (length memory)) refusedData 0
 
 -- "number alone, nothing changed": what was lent, where it is refused; else what the call does, and 0
 abbrev pub unlessRefused : {A : Type 0} → ℕ → A → A → Answer A

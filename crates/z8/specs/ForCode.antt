@@ -1,4 +1,4 @@
--- For the contracts of the code alone, which returns in parts what the definitions say whole: nothing here has to be believed. Assumes nothing.
+-- For the contracts of the code alone, which returns in parts what the definitions say whole: nothing here has to be believed.
 use mathlib.Core.List.{List, [], _∷_}
 use Prim.Native.Nat.{ℕ}
 use Rattle.saved.specs.Saved.{firstOf}

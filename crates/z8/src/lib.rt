@@ -9,29 +9,16 @@ ghost use Rattle.saved.specs.Saved.{refusalOf};
 ghost use Rattle.z8.specs.Calls.{answer, lent, lentSpan, four, pinsGiven, makeOf, makeDefaultOf, resetCallOf, decodeCallOf, encodeCallOf, stepCallOf, runCallOf, spanCallOf};
 ghost use Rattle.z8.specs.ForCode.{admittedOf};
 
-const SAVED_LEN: usize = 268;
-
-// The most bytes of a program image, and of a data memory.
-const MEMORY_MOST: usize = 65536;
-
-// 01's table, as far as its refusals are given here: 6, 3, 5 and 8 come from the rooms below.
-const DONE: u32 = 0;
-
-const IMAGE_TOO_LONG: u32 = 1;
-
-const MEMORY_TOO_LONG: u32 = 2;
-
-const BUDGET_TOO_HIGH: u32 = 4;
-
-const LENGTH_NOT_268: u32 = 7;
+// Nothing is refused.
+const DONE: u32 = numbers::DONE as u32;
 
 // A new machine of that type and entry cost: 7, 3.
 #[no_mangle]
 pub extern "C" fn z8_make(saved: &mut [u8], kind: u32, cost: u32) -> u32
     ensures { λ r. ⌜ answer r (now (saved .exit)) ≡ makeOf kind cost (now (saved .entry)) ⌝ }
 {
-    if saved.len() != SAVED_LEN {
-        return LENGTH_NOT_268;
+    if saved.len() != numbers::SAVED_LENGTH {
+        return numbers::REFUSED_LENGTH as u32;
     }
     let made = Machine::make(kind, cost);
     if made.refusal != 0 {
@@ -47,8 +34,8 @@ pub extern "C" fn z8_make(saved: &mut [u8], kind: u32, cost: u32) -> u32
 pub extern "C" fn z8_make_default(saved: &mut [u8]) -> u32
     ensures { λ r. ⌜ answer r (now (saved .exit)) ≡ makeDefaultOf (now (saved .entry)) ⌝ }
 {
-    if saved.len() != SAVED_LEN {
-        return LENGTH_NOT_268;
+    if saved.len() != numbers::SAVED_LENGTH {
+        return numbers::REFUSED_LENGTH as u32;
     }
     let m = Machine::default();
     saved::save(&mut *saved, m);
@@ -91,8 +78,8 @@ pub extern "C" fn z8_decode(
 ) -> u32
     ensures { λ r. ⌜ answer r (four (now (opcode .exit)) (now (first .exit)) (now (second .exit)) (now (length .exit))) ≡ decodeCallOf (now (image .entry)) at (four (now (opcode .entry)) (now (first .entry)) (now (second .entry)) (now (length .entry))) ⌝ }
 {
-    if MEMORY_MOST < image.len() {
-        return IMAGE_TOO_LONG;
+    if numbers::IMAGE_MOST < image.len() {
+        return numbers::REFUSED_IMAGE as u32;
     }
     let i = execute::fetch(image, at);
     let d = opcodes::instruction::decode(i.op, i.first, i.second);
@@ -141,11 +128,11 @@ fn admitted(saved: u8, image: &[u8], memory: &[u8]) -> u32
     if saved != 0 {
         return saved as u32;
     }
-    if MEMORY_MOST < image.len() {
-        return IMAGE_TOO_LONG;
+    if numbers::IMAGE_MOST < image.len() {
+        return numbers::REFUSED_IMAGE as u32;
     }
-    if MEMORY_MOST < memory.len() {
-        return MEMORY_TOO_LONG;
+    if numbers::DATA_MOST < memory.len() {
+        return numbers::REFUSED_DATA as u32;
     }
     DONE
 }
@@ -212,8 +199,8 @@ pub extern "C" fn z8_run(
     if refusal != 0 {
         return refusal;
     }
-    if step::BUDGET_LIMIT < budget {
-        return BUDGET_TOO_HIGH;
+    if numbers::BUDGET_MOST < budget {
+        return numbers::REFUSED_BUDGET as u32;
     }
     let m = loaded.machine;
     let pins = Pins {

@@ -24,12 +24,12 @@ low-requires-4 c κs = search needs
 low-requires-5 : tie.Need-low-requires-5
 low-requires-5 c κs = search needs
 
-one-if-requires : tie.Need-one-if-requires
-one-if-requires c κs = search needs
+bits-if-requires : tie.Need-bits-if-requires
+bits-if-requires c κs = search needs
 
 returns : tie.Need-returns
 unfolding restOf
-returns c = simp (c .one-if .ensures, c .before .low5 .ensures, c .before .before .low4 .ensures, c .before .before .before .low3 .ensures, c .before .before .before .before .low2 .ensures, c .before .before .before .before .before .low .ensures, c .before .before .before .before .before .before .low-byte .ensures, c .before .before .before .before .before .before .before .high-byte .ensures)
+returns c = simp (c .bits-if .ensures .0, c .before .low5 .ensures, c .before .before .low4 .ensures, c .before .before .before .low3 .ensures, c .before .before .before .before .low2 .ensures, c .before .before .before .before .before .low .ensures, c .before .before .before .before .before .before .low-byte .ensures, c .before .before .before .before .before .before .before .high-byte .ensures)
 
 pub rest-of-spec : {M : Type 1} → statement M
 rest-of-spec =
@@ -42,5 +42,5 @@ rest-of-spec =
     low-requires-3
     low-requires-4
     low-requires-5
-    one-if-requires
+    bits-if-requires
     returns)

@@ -1,7 +1,8 @@
 use borrow.Author.Needs.{needs}
 use Rattle.step.proofs.run.Statement.{statement}
 use Rattle.step.proofs.run.Tie as tie
-use Rattle.step.specs.Run.{budgetLimit, runOf}
+use Rattle.numbers.specs.Numbers.{budgetMost}
+use Rattle.step.specs.Run.{runOf}
 use mathlib.Core.Path.{_≡_}
 use mathlib.Core.Bool.{true, false}
 use lib.Dec.{ltb}
@@ -9,7 +10,7 @@ use borrow.Author.Tests.{lt-ltb, le-ltb}
 
 returns : tie.Need-returns
 unfolding runOf
-returns c = let over : ltb budgetLimit (c .before .before .before .args .budget) ≡ true = lt-ltb budgetLimit (c .before .before .before .args .budget) (c .if1 .taken) in rw over
+returns c = let over : ltb budgetMost (c .before .before .before .args .budget) ≡ true = lt-ltb budgetMost (c .before .before .before .args .budget) (c .if1 .taken) in rw over
 
 lend-requires : tie.Need-lend-requires
 lend-requires c κs = search needs
@@ -25,7 +26,7 @@ same-length c = search needs
 
 returns-2 : tie.Need-returns-2
 unfolding runOf
-returns-2 c = let within : ltb budgetLimit (c .before .before .before .before .before .before .before .before .before .before .before .before .before .args .budget) ≡ false = le-ltb budgetLimit (c .before .before .before .before .before .before .before .before .before .before .before .before .before .args .budget) (c .before .before .before .before .before .before .before .before .before .before .if1 .left) in rw (within) (rw (c .before .before .before .before .before .before .before .before .lend .ensures, ← c .machine-of .ensures) at (c .before .before .before .before .steps .ensures))
+returns-2 c = let within : ltb budgetMost (c .before .before .before .before .before .before .before .before .before .before .before .before .before .args .budget) ≡ false = le-ltb budgetMost (c .before .before .before .before .before .before .before .before .before .before .before .before .before .args .budget) (c .before .before .before .before .before .before .before .before .before .before .if1 .left) in rw (within) (rw (c .before .before .before .before .before .before .before .before .lend .ensures, ← c .machine-of .ensures) at (c .before .before .before .before .steps .ensures))
 
 pub run-spec : {M : Type 1} → statement M
 run-spec =

@@ -1,4 +1,4 @@
--- `vectors::checksum` ends: the loop's index rises to n. Assumes nothing.
+-- `vectors::checksum` ends: the loop's index rises to n.
 use borrow.Author.Needs.{needs}
 use Prim.Native.Nat.{_≤_, _-_}
 use Rattle.vectors.proofs.checksum.Statement.{statement}

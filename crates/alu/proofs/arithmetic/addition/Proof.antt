@@ -22,8 +22,8 @@ cast-carry c = search needs
 half-carry-requires : tie.Need-half-carry-requires
 half-carry-requires c κs = search needs
 
-one-if-requires : tie.Need-one-if-requires
-one-if-requires c κs = search needs
+bits-if-requires : tie.Need-bits-if-requires
+bits-if-requires c κs = search needs
 
 sum-overflow-requires : tie.Need-sum-overflow-requires
 sum-overflow-requires c κs = search needs
@@ -37,7 +37,7 @@ returns c =
     let s = c .before .before .before .before in
     let half : c .before .before .before .half-carry .result ≡ (s .args .a % 16 + s .args .b % 16 + s .args .c) / 16 =
     rw (c .before .before .before .half-carry .ensures .0) (half-of-sum (s .args .a) (s .args .b) (s .args .c) (s .pre)) in
-    rw (c .pack .ensures, c .before .sum-overflow .ensures .0, c .before .before .one-if .ensures .0, half)
+    rw (c .pack .ensures, c .before .sum-overflow .ensures .0, c .before .before .bits-if .ensures .0, half)
 
 pub addition-spec : {M : Type 1} → statement M
 addition-spec =
@@ -48,7 +48,7 @@ addition-spec =
     cast-value
     cast-carry
     half-carry-requires
-    one-if-requires
+    bits-if-requires
     sum-overflow-requires
     pack-requires
     returns)

@@ -11,11 +11,11 @@ use Rattle.alu.specs.Arithmetic.{incOf, sumOverflow}
 wrapping-add-u8-requires : tie.Need-wrapping-add-u8-requires
 wrapping-add-u8-requires c κs = search needs
 
-one-if-requires : tie.Need-one-if-requires
-one-if-requires c κs = search needs
+bits-if-requires : tie.Need-bits-if-requires
+bits-if-requires c κs = search needs
 
-one-if-requires-2 : tie.Need-one-if-requires-2
-one-if-requires-2 c κs = search needs
+bits-if-requires-2 : tie.Need-bits-if-requires-2
+bits-if-requires-2 c κs = search needs
 
 counted-requires : tie.Need-counted-requires
 counted-requires c κs = search needs
@@ -25,11 +25,11 @@ unfolding incOf
 returns c =
     let s = c .before .before .before .before in
     let value : c .before .before .before .wrapping-add-u8 .result ≡ (s .args .a + 1) % 256 = c .before .before .before .wrapping-add-u8 .ensures in
-    let v : c .before .one-if2 .result ≡ sumOverflow (sign8 (s .args .a)) 0 (sign8 ((s .args .a + 1) % 256)) =
-    rw (c .before .one-if2 .ensures .0, value) (inc-overflow (s .args .a) (omega arith)) in
-    rw (c .counted .ensures, v, c .before .before .one-if .ensures .0, value)
+    let v : c .before .bits-if2 .result ≡ sumOverflow (sign8 (s .args .a)) 0 (sign8 ((s .args .a + 1) % 256)) =
+    rw (c .before .bits-if2 .ensures .0, value) (inc-overflow (s .args .a) (omega arith)) in
+    rw (c .counted .ensures, v, c .before .before .bits-if .ensures .0, value)
 
 pub inc-spec : {M : Type 1} → statement M
 inc-spec =
     tie.close
-    (tie.spec wrapping-add-u8-requires one-if-requires one-if-requires-2 counted-requires returns)
+    (tie.spec wrapping-add-u8-requires bits-if-requires bits-if-requires-2 counted-requires returns)

@@ -14,17 +14,17 @@ use Rattle.alu.specs.FlagByte.{packed}
 difference-requires : tie.Need-difference-requires
 difference-requires c κs = search needs
 
-add-one-if : tie.Need-add-one-if
-add-one-if c = search needs
+add-bits-if : tie.Need-add-bits-if
+add-bits-if c = search needs
 
-one-if-requires : tie.Need-one-if-requires
-one-if-requires c κs = search needs
+bits-if-requires : tie.Need-bits-if-requires
+bits-if-requires c κs = search needs
 
 half-carry-requires : tie.Need-half-carry-requires
 half-carry-requires c κs = search needs
 
-one-if-requires-2 : tie.Need-one-if-requires-2
-one-if-requires-2 c κs = search needs
+bits-if-requires-2 : tie.Need-bits-if-requires-2
+bits-if-requires-2 c κs = search needs
 
 difference-overflow-requires : tie.Need-difference-overflow-requires
 difference-overflow-requires c κs = search needs
@@ -42,9 +42,9 @@ returns c =
     rw (
       c .pack .ensures,
       c .before .difference-overflow .ensures .0,
-      c .before .before .one-if2 .ensures .0,
+      c .before .before .bits-if2 .ensures .0,
       half,
-      c .before .before .before .before .one-if .ensures .0,
+      c .before .before .before .before .bits-if .ensures .0,
       value,
     )
 
@@ -53,10 +53,10 @@ subtraction-spec =
     tie.close
     (tie.spec
     difference-requires
-    add-one-if
-    one-if-requires
+    add-bits-if
+    bits-if-requires
     half-carry-requires
-    one-if-requires-2
+    bits-if-requires-2
     difference-overflow-requires
     pack-requires
     returns)

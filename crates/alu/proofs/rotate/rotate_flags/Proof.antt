@@ -4,8 +4,8 @@ use Rattle.alu.proofs.rotate.rotate_flags.Tie as tie
 use Rattle.alu.specs.Rotate.{rotateFlags}
 use Rattle.alu.specs.FlagByte.{packed}
 
-one-if-requires : tie.Need-one-if-requires
-one-if-requires c κs = search needs
+bits-if-requires : tie.Need-bits-if-requires
+bits-if-requires c κs = search needs
 
 rotate-overflow-requires : tie.Need-rotate-overflow-requires
 rotate-overflow-requires c κs = search needs
@@ -15,7 +15,7 @@ pack-requires c κs = search needs
 
 returns : tie.Need-returns
 unfolding rotateFlags packed
-returns c = rw (c .pack .ensures, c .before .rotate-overflow .ensures .0, c .before .before .one-if .ensures .0)
+returns c = rw (c .pack .ensures, c .before .rotate-overflow .ensures .0, c .before .before .bits-if .ensures .0)
 
 pub rotate-flags-spec : {M : Type 1} → statement M
-rotate-flags-spec = tie.close (tie.spec one-if-requires rotate-overflow-requires pack-requires returns)
+rotate-flags-spec = tie.close (tie.spec bits-if-requires rotate-overflow-requires pack-requires returns)

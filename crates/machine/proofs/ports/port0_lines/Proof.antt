@@ -17,7 +17,7 @@ bits-if-requires-4 c κs = search needs
 
 returns : tie.Need-returns
 unfolding port0Directions
-returns c = rw (c .bits-if4 .ensures, c .before .bits-if3 .ensures, c .before .before .bits-if2 .ensures, c .before .before .before .bits-if .ensures)
+returns c = rw (c .bits-if4 .ensures .0, c .before .bits-if3 .ensures .0, c .before .before .bits-if2 .ensures .0, c .before .before .before .bits-if .ensures .0)
 
 pub port0-lines-spec : {M : Type 1} → statement M
 port0-lines-spec =

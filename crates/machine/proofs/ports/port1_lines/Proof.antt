@@ -11,7 +11,7 @@ bits-if-requires-2 c κs = search needs
 
 returns : tie.Need-returns
 unfolding port1Directions
-returns c = rw (c .bits-if2 .ensures, c .before .bits-if .ensures)
+returns c = rw (c .bits-if2 .ensures .0, c .before .bits-if .ensures .0)
 
 pub port1-lines-spec : {M : Type 1} → statement M
 port1-lines-spec = tie.close (tie.spec bits-if-requires bits-if-requires-2 returns)

@@ -1,0 +1,53 @@
+use borrow.Author.Needs.{needs}
+use Rattle.clock.proofs.moving_of.Statement.{statement}
+use Rattle.clock.proofs.moving_of.Tie as tie
+use Rattle.machine.specs.Clock.{movingOf}
+
+held-requires : tie.Need-held-requires
+held-requires c κs = search needs
+
+held-requires-2 : tie.Need-held-requires-2
+held-requires-2 c κs = search needs
+
+is-set-requires : tie.Need-is-set-requires
+is-set-requires c κs = search needs
+
+is-set-requires-2 : tie.Need-is-set-requires-2
+is-set-requires-2 c κs = search needs
+
+divider-requires : tie.Need-divider-requires
+divider-requires c κs = search needs
+
+t0-requires : tie.Need-t0-requires
+t0-requires c κs = search needs
+
+t1-requires : tie.Need-t1-requires
+t1-requires c κs = search needs
+
+tout-requires : tie.Need-tout-requires
+tout-requires c κs = search needs
+
+returns : tie.Need-returns
+unfolding movingOf
+returns c =
+    let t0-is = c .before .before .t0 .ensures in
+    let divider-is = c .before .before .before .divider .ensures in
+    let is-set-2-is = c .before .before .before .before .is-set2 .ensures in
+    let is-set-is = c .before .before .before .before .before .is-set .ensures in
+    let held-2-is = c .before .before .before .before .before .before .held2 .ensures in
+    let held-is = c .before .before .before .before .before .before .before .held .ensures in
+    rw (c .tout .ensures, c .before .t1 .ensures, t0-is, divider-is, is-set-2-is, is-set-is, held-2-is, held-is)
+
+pub moving-of-spec : {M : Type 1} → statement M
+moving-of-spec =
+    tie.close
+    (tie.spec
+    held-requires
+    held-requires-2
+    is-set-requires
+    is-set-requires-2
+    divider-requires
+    t0-requires
+    t1-requires
+    tout-requires
+    returns)

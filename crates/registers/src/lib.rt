@@ -1,0 +1,113 @@
+// What a register's address reads, and what a store to it does; operand addresses and pairs; the stack.
+pub mod addresses;
+pub mod stack;
+
+use lent::Rest;
+use machine::File;
+use machine::Pins;
+use machine::names;
+use timers::Timer;
+ghost use mathlib.Core.Path.{_≡_};
+ghost use Rattle.word.specs.Fields.{lowByte};
+ghost use Rattle.machine.specs.Registers.{readPort, writePort, readReg, writeReg};
+ghost use Rattle.machine.specs.ForCode.{isGeneral};
+ghost use Rattle.lent.specs.View.{machineIn};
+
+fn read_port(regs: &File, rest: &Rest, pins: Pins, a: u8) -> u8
+    ensures { λ r. ⌜ r ≡ readPort pins (machineIn (now (regs .entry)) (now (rest .entry))) a ⌝ }
+{
+    let p01m = machine::file::held(regs, names::P01M);
+    let p2m = machine::file::held(regs, names::P2M);
+    let latch = machine::file::held(regs, a);
+    let d = machine::ports::directions_of(p01m, p2m, a);
+    let pin = machine::ports::pins_of(pins, a);
+    machine::ports::reads(d, pin, latch)
+}
+
+fn write_port(regs: &mut File, rest: &Rest, a: u8, v: u8)
+    ensures { λ _. ⌜ machineIn (now (regs .exit)) (now (rest .entry)) ≡ writePort (machineIn (now (regs .entry)) (now (rest .entry))) a v ⌝ }
+{
+    let p01m = machine::file::held(regs, names::P01M);
+    let p2m = machine::file::held(regs, names::P2M);
+    let latch = machine::file::held(regs, a);
+    let d = machine::ports::directions_of(p01m, p2m, a);
+    let after = machine::ports::stores(d, latch, v);
+    machine::file::place(regs, a, after);
+}
+
+// R4 to R127: what a program uses most is looked at first.
+fn is_general(a: u8) -> bool
+    ensures { λ r. ⌜ r ≡ isGeneral a ⌝ }
+{
+    (0x04 <= a) & (a < 0x80)
+}
+
+// A count in progress as F2 and F4 read it.
+fn counter(t: Timer) -> u8
+    ensures { λ r. ⌜ r ≡ lowByte (t .counter) ⌝ }
+{
+    (t.counter % 256) as u8
+}
+
+// What register a reads, whichever it is.
+pub fn read_any(regs: &File, rest: &Rest, pins: Pins, a: u8) -> u8
+    ensures { λ r. ⌜ r ≡ readReg pins (machineIn (now (regs .entry)) (now (rest .entry))) a ⌝ }
+{
+    match a {
+        0x00..=0x03 => read_port(regs, rest, pins, a),
+        0x80..=names::SIO => 0xFF,
+        names::T1 => counter(lent::t1(rest)),
+        names::PRE1 => 0xFF,
+        names::T0 => counter(lent::t0(rest)),
+        names::PRE0..=names::IPR => 0xFF,
+        names::IMR => machine::file::held(regs, a) & 0xBF,
+        _ => machine::file::held(regs, a),
+    }
+}
+
+// What register a reads.
+pub fn read(regs: &File, rest: &Rest, pins: Pins, a: u8) -> u8
+    ensures { λ r. ⌜ r ≡ readReg pins (machineIn (now (regs .entry)) (now (rest .entry))) a ⌝ }
+{
+    let general = is_general(a);
+    if general {
+        return machine::file::held(regs, a);
+    }
+    read_any(regs, rest, pins, a)
+}
+
+// A store of v to register a, whichever it is.
+pub fn write_any(regs: &mut File, rest: &mut Rest, a: u8, v: u8)
+    ensures { λ _. ⌜ machineIn (now (regs .exit)) (now (rest .exit)) ≡ writeReg (machineIn (now (regs .entry)) (now (rest .entry))) a v ⌝ }
+{
+    match a {
+        0x00..=0x03 => {
+            write_port(regs, rest, a, v);
+        }
+        0x80..=names::SIO => {}
+        names::TMR => {
+            clock::write_tmr(regs, rest, v);
+        }
+        names::IRQ => {
+            machine::file::place(regs, a, v % 64);
+        }
+        names::RP => {
+            machine::file::place(regs, a, v / 16 * 16);
+        }
+        _ => {
+            machine::file::place(regs, a, v);
+        }
+    }
+}
+
+// A store of v to register a.
+pub fn write(regs: &mut File, rest: &mut Rest, a: u8, v: u8)
+    ensures { λ _. ⌜ machineIn (now (regs .exit)) (now (rest .exit)) ≡ writeReg (machineIn (now (regs .entry)) (now (rest .entry))) a v ⌝ }
+{
+    let general = is_general(a);
+    if general {
+        machine::file::place(regs, a, v);
+        return;
+    }
+    write_any(regs, rest, a, v);
+}
