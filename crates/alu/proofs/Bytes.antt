@@ -20,7 +20,7 @@ use Rattle.alu.specs.Rotate.{rotateFlags, rlOf, rlcOf, rrOf, rrcOf, sraO
 use Rattle.alu.specs.Decimal.{afterAddition, afterSubtraction, byRows, adjustedBy, daOf}
 
 abbrev pub ByteFlags : Flags → Type 0
-ByteFlags e = e .set < 256
+ByteFlags e = e .ones < 256
 
 abbrev pub ByteOutcome : Outcome → Type 0
 ByteOutcome o = (o .value < 256) × ByteFlags (o .flags)
@@ -178,12 +178,12 @@ ByteAdjusted (By o) = ByteOutcome o
 ByteAdjusted NoRow = Unit {0}
 
 abbrev fits : Adjusted → Bool
-fits (By o) = ltb (o .value) 256 && ltb (o .flags .set) 256
+fits (By o) = ltb (o .value) 256 && ltb (o .flags .ones) 256
 fits NoRow = true
 
 fitting : (x : Adjusted) → T (fits x) → ByteAdjusted x
 fitting (By o) t =
-    (ltb→lt (o .value) 256 (and-left (ltb (o .value) 256) (ltb (o .flags .set) 256) t), ltb→lt (o .flags .set) 256 (and-right (ltb (o .value) 256) (ltb (o .flags .set) 256) t))
+    (ltb→lt (o .value) 256 (and-left (ltb (o .value) 256) (ltb (o .flags .ones) 256) t), ltb→lt (o .flags .ones) 256 (and-right (ltb (o .value) 256) (ltb (o .flags .ones) 256) t))
 fitting NoRow t = tt
 
 pub da-byte : (v f : ℕ) → v < 256 → ByteAdjusted (daOf v f)
@@ -196,7 +196,7 @@ da-byte v f h =
 -- the flags laid on a byte
 pub laid-byte : (f : ℕ) (e : Flags) → f < 256 → ByteFlags e → laid f e < 256
 unfolding laid
-laid-byte f e hf he = or-lt 8 (bitAnd f (255 - e .affected)) (e .set) (and-lt 8 f (255 - e .affected) hf (omega arith)) he
+laid-byte f e hf he = or-lt 8 (bitAnd f (255 - e .affected)) (e .ones) (and-lt 8 f (255 - e .affected) hf (omega arith)) he
 
 pub rcf-byte : (f : ℕ) → f < 256 → rcfOf f < 256
 unfolding rcfOf packed

@@ -15,12 +15,12 @@ use Rattle.alu.specs.Decimal.{Row, fits, afterAddition, afterSubtraction
 
 -- a bit of what is laid is the result of laying that bit
 pub laid-bit : (n f : ℕ) (e : Flags)
-    → bitOf n (laid f e) ≡ bitOr (bitAnd (bitOf n f) (bitOf n (255 - e .affected))) (bitOf n (e .set))
+    → bitOf n (laid f e) ≡ bitOr (bitAnd (bitOf n f) (bitOf n (255 - e .affected))) (bitOf n (e .ones))
 unfolding laid
 laid-bit n f e =
     rw (
-      or-shr (bitAnd f (255 - e .affected)) (e .set) n,
-      or-mod (bitAnd f (255 - e .affected) / 2 ^ n) (e .set / 2 ^ n) 1,
+      or-shr (bitAnd f (255 - e .affected)) (e .ones) n,
+      or-mod (bitAnd f (255 - e .affected) / 2 ^ n) (e .ones / 2 ^ n) 1,
       and-shr f (255 - e .affected) n,
       and-mod (f / 2 ^ n) ((255 - e .affected) / 2 ^ n) 1,
     )
@@ -30,16 +30,16 @@ complement n m h k = agree2 (λ n m. bitOf n (255 - m)) (λ n m. 1 - bitOf n m) 
 
 module _ (n f : ℕ) (e : Flags) (h : n < 8) (k : e .affected < 256) where
   -- a bit that is not affected is f's
-  pub unaffected-kept : bitOf n (e .affected) ≡ 0 → bitOf n (e .set) ≡ 0 → bitOf n (laid f e) ≡ bitOf n f
+  pub unaffected-kept : bitOf n (e .affected) ≡ 0 → bitOf n (e .ones) ≡ 0 → bitOf n (laid f e) ≡ bitOf n f
   unaffected-kept a s =
       rw (laid-bit n f e, complement n (e .affected) h k, a, s)
       (agree2 (λ x y. bitOr (bitAnd x 1) 0) (λ x y. x) 2 1 refl (bitOf n f) 0 (omega arith) (omega arith))
 
   -- a bit that is affected is the operation's
-  pub affected-laid : bitOf n (e .affected) ≡ 1 → bitOf n (laid f e) ≡ bitOf n (e .set)
+  pub affected-laid : bitOf n (e .affected) ≡ 1 → bitOf n (laid f e) ≡ bitOf n (e .ones)
   affected-laid a =
       rw (laid-bit n f e, complement n (e .affected) h k, a)
-      (agree2 (λ x y. bitOr (bitAnd x 0) y) (λ x y. y) 2 2 refl (bitOf n f) (bitOf n (e .set)) (omega arith) (omega arith))
+      (agree2 (λ x y. bitOr (bitAnd x 0) y) (λ x y. y) 2 2 refl (bitOf n f) (bitOf n (e .ones)) (omega arith) (omega arith))
 
 -- how many rows are for this byte, C and H
 abbrev pub forIt : List Row → ℕ → ℕ → ℕ → ℕ

@@ -52,12 +52,12 @@ abbrev pub page : Flag → Flag → Flag → Flag → Flag → Flag → Flags
 page c z s v d h =
     record {
       affected = packed (affects c) (affects z) (affects s) (affects v) (affects d) (affects h);
-      set = packed (becomes c) (becomes z) (becomes s) (becomes v) (becomes d) (becomes h);
+      ones = packed (becomes c) (becomes z) (becomes s) (becomes v) (becomes d) (becomes h);
     }
 
 -- the FLAGS byte f, as it stands once the destination is stored (HOUSE), with the affected bits laid on it: the others are f's
 unfoldable pub laid : ℕ → Flags → ℕ
-laid f e = bitOr (bitAnd f (255 - e .affected)) (e .set)
+laid f e = bitOr (bitAnd f (255 - e .affected)) (e .ones)
 
 -- "Set if the result is zero; cleared otherwise", of a byte or a word
 abbrev pub isZero : ℕ → ℕ

@@ -49,10 +49,10 @@ fn addition(a: u8, b: u8, c: u8) -> Outcome
     let half = half_carry(a, b, value);
     let z = word::bits_if(value == 0, 1);
     let v = sum_overflow(a / 128, b / 128, value / 128);
-    let set = crate::pack(carry, z, value / 128, v, 0, half);
+    let ones = crate::pack(carry, z, value / 128, v, 0, half);
     let flags = Flags {
         affected: Flags::CZSVDH,
-        set,
+        ones,
     };
     Outcome { value, flags }
 }
@@ -87,10 +87,10 @@ fn subtraction(a: u8, b: u8, c: u8) -> Outcome
     let half = half_carry(a, b, value);
     let z = word::bits_if(value == 0, 1);
     let v = difference_overflow(a / 128, b / 128, value / 128);
-    let set = crate::pack(borrow, z, value / 128, v, 1, half);
+    let ones = crate::pack(borrow, z, value / 128, v, 1, half);
     let flags = Flags {
         affected: Flags::CZSVDH,
-        set,
+        ones,
     };
     Outcome { value, flags }
 }
@@ -114,10 +114,10 @@ pub fn cp(a: u8, b: u8) -> Flags
     let borrow = word::bits_if(a < b, 1);
     let z = word::bits_if(r == 0, 1);
     let v = difference_overflow(a / 128, b / 128, r / 128);
-    let set = crate::pack(borrow, z, r / 128, v, 0, 0);
+    let ones = crate::pack(borrow, z, r / 128, v, 0, 0);
     Flags {
         affected: Flags::CZSV,
-        set,
+        ones,
     }
 }
 
@@ -128,10 +128,10 @@ fn counted(z: u8, s: u8, v: u8) -> Flags
     requires { ⌜ v < 2 ⌝ }
     ensures { λ e. ⌜ e ≡ counted z s v ⌝ }
 {
-    let set = crate::pack(0, z, s, v, 0, 0);
+    let ones = crate::pack(0, z, s, v, 0, 0);
     Flags {
         affected: Flags::ZSV,
-        set,
+        ones,
     }
 }
 

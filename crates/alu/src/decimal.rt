@@ -13,10 +13,10 @@ fn by(v: u8, add: u8, after: u8) -> Adjusted
 {
     let value = std::num::wrapping_add_u8(v, add);
     let z = word::bits_if(value == 0, 1);
-    let set = crate::pack(after, z, value / 128, 0, 0, 0);
+    let ones = crate::pack(after, z, value / 128, 0, 0, 0);
     let flags = Flags {
         affected: Flags::CZS,
-        set,
+        ones,
     };
     let o = Outcome { value, flags };
     Adjusted::By(o)

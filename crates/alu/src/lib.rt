@@ -15,7 +15,7 @@ pub mod rotate;
 // Which bits of FLAGS an operation affects, and which of these it sets.
 pub struct Flags {
     pub affected: u8,
-    pub set: u8,
+    pub ones: u8,
 }
 
 // The bits of FLAGS that an operation affects, by the flags' names.
@@ -55,7 +55,7 @@ pub enum Adjusted {
 pub fn lay(f: u8, e: Flags) -> u8
     ensures { λ r. ⌜ r ≡ laid f e ⌝ }
 {
-    (f & !e.affected) | e.set
+    (f & !e.affected) | e.ones
 }
 
 // Six flags in their places.
@@ -76,10 +76,10 @@ fn carry_to(c: u8) -> Flags
     requires { ⌜ c < 2 ⌝ }
     ensures { λ r. ⌜ r ≡ carryTo c ⌝ }
 {
-    let set = pack(c, 0, 0, 0, 0, 0);
+    let ones = pack(c, 0, 0, 0, 0, 0);
     Flags {
         affected: Flags::C,
-        set,
+        ones,
     }
 }
 

@@ -8,10 +8,10 @@ fn logic_flags(r: u8) -> Flags
     ensures { λ e. ⌜ e ≡ logicFlags r ⌝ }
 {
     let z = word::bits_if(r == 0, 1);
-    let set = crate::pack(0, z, r / 128, 0, 0, 0);
+    let ones = crate::pack(0, z, r / 128, 0, 0, 0);
     Flags {
         affected: Flags::ZSV,
-        set,
+        ones,
     }
 }
 

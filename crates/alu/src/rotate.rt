@@ -25,10 +25,10 @@ fn rotate_flags(out: u8, a: u8, r: u8) -> Flags
 {
     let z = word::bits_if(r == 0, 1);
     let v = rotate_overflow(a / 128, r / 128);
-    let set = crate::pack(out, z, r / 128, v, 0, 0);
+    let ones = crate::pack(out, z, r / 128, v, 0, 0);
     Flags {
         affected: Flags::CZSV,
-        set,
+        ones,
     }
 }
 
@@ -69,10 +69,10 @@ pub fn sra(a: u8) -> Outcome
 {
     let value = a / 2 + a / 128 * 128;
     let z = word::bits_if(value == 0, 1);
-    let set = crate::pack(a % 2, z, value / 128, 0, 0, 0);
+    let ones = crate::pack(a % 2, z, value / 128, 0, 0, 0);
     let flags = Flags {
         affected: Flags::CZSV,
-        set,
+        ones,
     };
     Outcome { value, flags }
 }
@@ -82,10 +82,10 @@ pub fn swap(a: u8) -> Outcome
 {
     let value = a % 16 * 16 + a / 16;
     let z = word::bits_if(value == 0, 1);
-    let set = crate::pack(0, z, value / 128, 0, 0, 0);
+    let ones = crate::pack(0, z, value / 128, 0, 0, 0);
     let flags = Flags {
         affected: Flags::ZS,
-        set,
+        ones,
     };
     Outcome { value, flags }
 }

@@ -132,8 +132,8 @@ pub fn long_span(regs: &mut File, rest: &mut Rest, n: u32) -> Ends
     let x = timers::clock::span(c, m, n);
     let ends0 = x.ends0;
     let ends1 = x.ends1;
-    let now = x.now;
-    move_to(regs, rest, now);
+    let after = x.moving;
+    move_to(regs, rest, after);
     Ends { ends0, ends1 }
 }
 

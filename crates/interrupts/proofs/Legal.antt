@@ -40,16 +40,16 @@ latched-moving {m} given l =
       irq-high = edges-latch-legal (m .last3) given (movingOf m .lines .irq) (x .irq-high);
     }
 
-edges-legal : {m : Machine} (given : ℕ) → Legal m → LegalMoving (movedByEdges m given .now)
+edges-legal : {m : Machine} (given : ℕ) → Legal m → LegalMoving (movedByEdges m given .moving)
 unfolding movedByEdges
 edges-legal {m} given l =
-    by-test (λ (x : Spanned). LegalMoving (x .now)) (fell 1 (m .last3) given)
+    by-test (λ (x : Spanned). LegalMoving (x .moving)) (fell 1 (m .last3) given)
     (λ t. edge-legal (settingOf (controlOf m)) (setting-of l) _ (latched-moving given l))
     (λ t. latched-moving given l)
 
 pub compared-legal : {m : Machine} (given : ℕ) → Legal m → given < 256 → Legal (comparedOf m given .machine)
 unfolding comparedOf
-compared-legal {m} given l h = last3-legal given (moved-legal (movedByEdges m given .now) l (edges-legal given l)) h
+compared-legal {m} given l h = last3-legal given (moved-legal (movedByEdges m given .moving) l (edges-legal given l)) h
 
 -- an edge ends T1's count once at most
 pub compared-ends : (m : Machine) (given : ℕ) → comparedOf m given .ends1 ≤ 1

@@ -74,9 +74,9 @@ compared-last m given = refl
 
 -- IRQ then
 pub requests-seen : (m : Machine) (given : ℕ) → length (m .regs) ≡ 256 → held m 0xF1 < 256
-    → held (comparedOf m given .machine) 0xFA ≡ movedByEdges m given .now .lines .irq
+    → held (comparedOf m given .machine) 0xFA ≡ movedByEdges m given .moving .lines .irq
 unfolding comparedOf withLast3
-requests-seen m given long h = put-irq m long h (movedByEdges m given .now)
+requests-seen m given long h = put-irq m long h (movedByEdges m given .moving)
 
 -- what comparing the pins leaves: the program counter, type and entry cost, and every place but TMR and IRQ
 pub record Left (m n : Machine) : Type 0 where
@@ -88,4 +88,4 @@ pub record Left (m n : Machine) : Type 0 where
 pub compared-leaves : (m : Machine) (given : ℕ) → length (m .regs) ≡ 256 → held m 0xF1 < 256 → Left m (comparedOf m given .machine)
 unfolding comparedOf withLast3 movedTo placed countsAt
 compared-leaves m given long h =
-    record { pc-left = refl; kind-left = refl; cost-left = refl; place-left = put-other m long h (movedByEdges m given .now) }
+    record { pc-left = refl; kind-left = refl; cost-left = refl; place-left = put-other m long h (movedByEdges m given .moving) }

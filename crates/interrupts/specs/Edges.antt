@@ -47,4 +47,4 @@ pub record Comparison : Type 0 where
 unfoldable pub comparedOf : Machine → ℕ → Comparison
 comparedOf m given =
     let x = movedByEdges m given in
-    record { machine = withLast3 (movedTo m (x .now)) given; ends1 = x .ends1 }
+    record { machine = withLast3 (movedTo m (x .moving)) given; ends1 = x .ends1 }

@@ -77,7 +77,7 @@ fn moved(regs: &File, rest: &Rest, given: u8) -> Spanned
         timers::clock::edge(c, latched)
     } else {
         Spanned {
-            now: latched,
+            moving: latched,
             ends0: 0,
             ends1: 0,
         }
@@ -95,8 +95,8 @@ pub fn requests(regs: &File, rest: &Rest, given: u8) -> u8
         return machine::file::held(regs, names::IRQ);
     }
     let x = moved(regs, rest, given);
-    let now = x.now;
-    let lines = now.lines;
+    let after = x.moving;
+    let lines = after.lines;
     lines.irq
 }
 
@@ -112,9 +112,9 @@ pub fn compare(regs: &mut File, rest: &mut Rest, given: u8) -> u32
         return 0;
     }
     let x = moved(regs, rest, given);
-    let now = x.now;
+    let after = x.moving;
     let ends1 = x.ends1;
-    clock::move_to(regs, rest, now);
+    clock::move_to(regs, rest, after);
     lent::set_last3(regs, rest, given);
     ends1
 }

@@ -350,7 +350,7 @@ pub span-legal : {m : Machine} (n : ℕ) → Legal m → Legal (spanOf n m .mach
 unfolding shown
 span-legal {m} n l =
     rw (span-is m (l .file .long) (l .file .bytes 0xF1) n)
-    (moved-legal (cycles (settingOf (controlOf m)) n (movingOf m) .now) l (cycles-legal (settingOf (controlOf m)) (setting-of l) n (movingOf m) (l .moving)))
+    (moved-legal (cycles (settingOf (controlOf m)) n (movingOf m) .moving) l (cycles-legal (settingOf (controlOf m)) (setting-of l) n (movingOf m) (l .moving)))
 
 pub default-legal : Legal defaultOf
 unfolding defaultOf

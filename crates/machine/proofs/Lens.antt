@@ -133,7 +133,7 @@ module _ (m : Machine) (long : length (m .regs) ≡ 256) (tmr-byte : held m 0xF1
   one-more : (x : Spanned) → cycleOf (shown m x) ≡ shown m (cycle set x)
   unfolding cycleOf shown seen
   one-more x =
-      rw (put-setting m long tmr-byte (x .now), put-seen m long tmr-byte (x .now), put-again m long tmr-byte (x .now))
+      rw (put-setting m long tmr-byte (x .moving), put-seen m long tmr-byte (x .moving), put-again m long tmr-byte (x .moving))
 
   none-yet : _≡_ {A = Ran} (record { machine = m; ends0 = 0; ends1 = 0 }) (shown m (begun (movingOf m)))
   unfolding shown

@@ -95,13 +95,13 @@ module _ (m : Machine) where
   set = settingOf (controlOf m)
 
   abbrev Low : ℕ → Spanned → Type 0
-  Low irq x = x .now .lines .irq % 16 ≡ irq % 16
+  Low irq x = x .moving .lines .irq % 16 ≡ irq % 16
 
   both-leave : (irq : ℕ) (x : Spanned) → Low irq x → Low irq (tickBoth Divider set x)
   unfolding tickBoth settingOf setupOf
   both-leave irq x e =
       iter-keeps (endOf (set .t1)) L (λ l h. end-leaves (set .t1) refl l ∙ h) _ _
-      (iter-keeps (endOf (set .t0)) L (λ l h. end-leaves (set .t0) refl l ∙ h) _ (x .now .lines) e)
+      (iter-keeps (endOf (set .t0)) L (λ l h. end-leaves (set .t0) refl l ∙ h) _ (x .moving .lines) e)
     where
       L : Lines → Type 0
       L l = l .irq % 16 ≡ irq % 16
@@ -109,9 +109,9 @@ module _ (m : Machine) where
   cycle-leaves : (irq : ℕ) (x : Spanned) → Low irq x → Low irq (cycle set x)
   unfolding cycle
   cycle-leaves irq x e =
-      by-test (Low irq) (eqb ((x .now .divider + 1) % 4) 0) (λ t. both-leave irq (atDivider x ((x .now .divider + 1) % 4)) e) (λ t. e)
+      by-test (Low irq) (eqb ((x .moving .divider + 1) % 4) 0) (λ t. both-leave irq (atDivider x ((x .moving .divider + 1) % 4)) e) (λ t. e)
 
-  cycles-leave : (n : ℕ) → cycles set n (movingOf m) .now .lines .irq % 16 ≡ movingOf m .lines .irq % 16
+  cycles-leave : (n : ℕ) → cycles set n (movingOf m) .moving .lines .irq % 16 ≡ movingOf m .lines .irq % 16
   unfolding cycles
   cycles-leave n = iter-keeps (cycle set) (Low (movingOf m .lines .irq)) (cycle-leaves (movingOf m .lines .irq)) n (begun (movingOf m)) refl
 
@@ -131,7 +131,7 @@ pub record SpanLeaves (m k : Machine) : Type 0 where
 
 pub span-leaves : (m : Machine) → Legal m → (n : ℕ) → SpanLeaves m (spanOf n m .machine)
 unfolding movingOf movedTo placed countsAt shown
-span-leaves m l n = rw (span-is m long byte n) (moved-leaves (cycles (settingOf (controlOf m)) n (movingOf m) .now) (cycles-leave m n)
+span-leaves m l n = rw (span-is m long byte n) (moved-leaves (cycles (settingOf (controlOf m)) n (movingOf m) .moving) (cycles-leave m n)
     (cycles-legal (settingOf (controlOf m)) (setting-of l) n (movingOf m) (l .moving) .irq-high))
   where
     long : length (m .regs) ≡ 256

@@ -75,10 +75,10 @@ pub record Ran : Type 0 where
 
 -- what cycles move of it, and put back into a machine
 unfoldable pub seen : Ran → Spanned
-seen r = record { now = movingOf (r .machine); ends0 = r .ends0; ends1 = r .ends1 }
+seen r = record { moving = movingOf (r .machine); ends0 = r .ends0; ends1 = r .ends1 }
 
 unfoldable pub shown : Machine → Spanned → Ran
-shown m x = record { machine = movedTo m (x .now); ends0 = x .ends0; ends1 = x .ends1 }
+shown m x = record { machine = movedTo m (x .moving); ends0 = x .ends0; ends1 = x .ends1 }
 
 -- one cycle of a machine
 unfoldable pub cycleOf : Ran → Ran

@@ -20,10 +20,10 @@ pub fn length_of(op: u8) -> u8
 }
 
 // Operand byte b, the instruction's byte number n: zero where an instruction of that length hasn't it.
-fn operand(n: u8, length: u8, b: u8) -> u8
-    ensures { λ r. ⌜ r ≡ pick (leb n length) b 0 ⌝ }
+fn operand(n: u8, size: u8, b: u8) -> u8
+    ensures { λ r. ⌜ r ≡ pick (leb n size) b 0 ⌝ }
 {
-    if n <= length { b } else { 0 }
+    if n <= size { b } else { 0 }
 }
 
 // The instruction that begins at the first of three bytes of a program.

@@ -97,12 +97,16 @@ fn own_fit(cost: u8, tout: u8, kind: u8, spare: u8) -> bool
 }
 
 // "places 80 to EF and F0 (hexadecimal) zero"
+const HOLES: usize = 0x80;
+
+const HOLES_END: usize = names::SIO as usize + 1;
+
 fn holes_empty(saved: &[u8]) -> bool
     requires { ⌜ length (now saved) ≡ savedLength ⌝ }
     ensures { λ r. ⌜ r ≡ holesEmpty (now (saved .entry)) ⌝ }
 {
-    let mut i: usize = 0x80;
-    while i <= names::SIO as usize {
+    let mut i = HOLES;
+    while i < HOLES_END {
         if saved[i] != 0 {
             return false;
         }

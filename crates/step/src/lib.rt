@@ -17,10 +17,10 @@ ghost use Rattle.execute.specs.ForCode.{performed, performedBy};
 ghost use Rattle.interrupts.specs.Grants.{grantOf};
 ghost use Rattle.step.specs.Step.{grantedOr, stepOf};
 ghost use Rattle.step.specs.Run.{nothingDone, stepsOf, runOf};
-ghost use Rattle.step.specs.ForCode.{progressOf, isRefusedOf, steppedOf, passedOf};
+ghost use Rattle.step.specs.ForCode.{progressIn, isRefusedOf, progressOf, ranBy};
 
 // What a step or a run comes to, beside the machine and the data memory that were lent.
-pub struct Went {
+pub struct Tally {
     pub refusal: u8,
     pub cycles: u32,
     pub ends0: u32,
@@ -28,7 +28,7 @@ pub struct Went {
 }
 
 // The same with the machine by value.
-pub struct Stepped {
+pub struct Progress {
     pub refusal: u8,
     pub cycles: u32,
     pub ends0: u32,
@@ -37,7 +37,7 @@ pub struct Stepped {
 }
 
 // The same after some cycles and nothing else.
-pub struct Passed {
+pub struct Ran {
     pub ends0: u32,
     pub ends1: u32,
     pub machine: Machine,
@@ -62,14 +62,14 @@ fn act(regs: &mut File, rest: &mut Rest, pins: Pins, image: &[u8], mem: &mut [u8
 }
 
 // One step on a lent machine, where the pins given are the last already, so that there is nothing to compare.
-fn step_in(regs: &mut File, rest: &mut Rest, pins: Pins, image: &[u8], mem: &mut [u8]) -> Went
+fn step_in(regs: &mut File, rest: &mut Rest, pins: Pins, image: &[u8], mem: &mut [u8]) -> Tally
     requires { ⌜ Legal (machineIn (now regs) (now rest)) ⌝ }
     requires { ⌜ coreIn (now rest) .last3 ≡ pins .port3 ⌝ }
-    ensures { λ r. ⌜ progressOf (machineIn (now (regs .exit)) (now (rest .exit))) (now (mem .exit)) r ≡ stepOf pins (now (image .entry)) (now (mem .entry)) (machineIn (now (regs .entry)) (now (rest .entry))) ⌝ }
+    ensures { λ r. ⌜ progressIn (machineIn (now (regs .exit)) (now (rest .exit))) (now (mem .exit)) r ≡ stepOf pins (now (image .entry)) (now (mem .entry)) (machineIn (now (regs .entry)) (now (rest .entry))) ⌝ }
 {
     let cycles = act(regs, rest, pins, image, mem);
     if cycles == 0 {
-        return Went {
+        return Tally {
             refusal: numbers::REFUSED_OPCODE,
             cycles: 0,
             ends0: 0,
@@ -77,7 +77,7 @@ fn step_in(regs: &mut File, rest: &mut Rest, pins: Pins, image: &[u8], mem: &mut
         };
     }
     let e = clock::span(regs, rest, cycles);
-    Went {
+    Tally {
         refusal: numbers::DONE,
         cycles,
         ends0: e.ends0,
@@ -117,13 +117,13 @@ fn steps(
     image: &[u8],
     mem: &mut [u8],
     budget: u32,
-) -> Went
+) -> Tally
     requires { ⌜ Legal (machineIn (now regs) (now rest)) ⌝ }
     requires { ⌜ budget ≤ budgetMost ⌝ }
-    ensures { λ r. ⌜ progressOf (machineIn (now (regs .exit)) (now (rest .exit))) (now (mem .exit)) r ≡ stepsOf pins (now (image .entry)) (now (mem .entry)) (machineIn (now (regs .entry)) (now (rest .entry))) budget ⌝ }
+    ensures { λ r. ⌜ progressIn (machineIn (now (regs .exit)) (now (rest .exit))) (now (mem .exit)) r ≡ stepsOf pins (now (image .entry)) (now (mem .entry)) (machineIn (now (regs .entry)) (now (rest .entry))) budget ⌝ }
 {
     if budget == 0 {
-        return Went {
+        return Tally {
             refusal: numbers::DONE,
             cycles: 0,
             ends0: 0,
@@ -132,7 +132,7 @@ fn steps(
     }
     let refused = is_refused(regs, rest, pins, image);
     if refused {
-        return Went {
+        return Tally {
             refusal: numbers::REFUSED_OPCODE,
             cycles: 0,
             ends0: 0,
@@ -145,7 +145,7 @@ fn steps(
     while cycles < budget {
         let s = step_in(regs, rest, pins, image, mem);
         if s.refusal != numbers::DONE {
-            return Went {
+            return Tally {
                 refusal: s.refusal,
                 cycles,
                 ends0,
@@ -156,7 +156,7 @@ fn steps(
         ends0 = ends0 + s.ends0;
         ends1 = ends1 + s.ends1;
     }
-    Went {
+    Tally {
         refusal: numbers::DONE,
         cycles,
         ends0,
@@ -165,12 +165,12 @@ fn steps(
 }
 
 // The bounded run.
-pub fn run(m: Machine, pins: Pins, image: &[u8], mem: &mut [u8], budget: u32) -> Stepped
+pub fn run(m: Machine, pins: Pins, image: &[u8], mem: &mut [u8], budget: u32) -> Progress
     requires { ⌜ Legal m ⌝ }
-    ensures { λ r. ⌜ steppedOf (now (mem .exit)) r ≡ runOf pins (now (image .entry)) (now (mem .entry)) m budget ⌝ }
+    ensures { λ r. ⌜ progressOf (now (mem .exit)) r ≡ runOf pins (now (image .entry)) (now (mem .entry)) m budget ⌝ }
 {
     if numbers::BUDGET_MOST < budget {
-        return Stepped {
+        return Progress {
             refusal: numbers::REFUSED_BUDGET,
             cycles: 0,
             ends0: 0,
@@ -182,7 +182,7 @@ pub fn run(m: Machine, pins: Pins, image: &[u8], mem: &mut [u8], budget: u32) ->
     let mut rest = lent::lend(m);
     let w = steps(&mut regs, &mut rest, pins, image, mem, budget);
     let after = lent::machine_of(regs, &rest);
-    Stepped {
+    Progress {
         refusal: w.refusal,
         cycles: w.cycles,
         ends0: w.ends0,
@@ -192,23 +192,23 @@ pub fn run(m: Machine, pins: Pins, image: &[u8], mem: &mut [u8], budget: u32) ->
 }
 
 // One step. It costs a cycle at least, so it is the run that reaches a budget of one.
-pub fn step(m: Machine, pins: Pins, image: &[u8], mem: &mut [u8]) -> Stepped
+pub fn step(m: Machine, pins: Pins, image: &[u8], mem: &mut [u8]) -> Progress
     requires { ⌜ Legal m ⌝ }
-    ensures { λ r. ⌜ steppedOf (now (mem .exit)) r ≡ stepOf pins (now (image .entry)) (now (mem .entry)) m ⌝ }
+    ensures { λ r. ⌜ progressOf (now (mem .exit)) r ≡ stepOf pins (now (image .entry)) (now (mem .entry)) m ⌝ }
 {
     run(m, pins, image, mem, 1)
 }
 
 // n cycles, in one move by division.
-pub fn span(m: Machine, n: u32) -> Passed
+pub fn span(m: Machine, n: u32) -> Ran
     requires { ⌜ Legal m ⌝ }
-    ensures { λ r. ⌜ passedOf r ≡ spanOf n m ⌝ }
+    ensures { λ r. ⌜ ranBy r ≡ spanOf n m ⌝ }
 {
     let mut regs = m.regs;
     let mut rest = lent::lend(m);
     let e = clock::long_span(&mut regs, &mut rest, n);
     let machine = lent::machine_of(regs, &rest);
-    Passed {
+    Ran {
         ends0: e.ends0,
         ends1: e.ends1,
         machine,

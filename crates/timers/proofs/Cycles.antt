@@ -10,8 +10,8 @@ use Rattle.timers.specs.Iter.{iter}
 use Rattle.word.specs.Choose.{pick}
 use Rattle.timers.specs.Timer.{moves}
 use Rattle.timers.specs.Clock.{tickBoth, cycle, cycles, begun, atDivider, endOf, LegalSetting, LegalMoving}
-use Rattle.timers.specs.declared.ticks.Counted.{Counted}
-use Rattle.timers.specs.declared.clock.Counts.{Counts}
+use Rattle.timers.specs.declared.ticks.ShortCount.{ShortCount}
+use Rattle.timers.specs.declared.clock.ShortMove.{ShortMove}
 use Rattle.timers.specs.declared.Source.{Source}
 use Rattle.timers.specs.declared.Source.the-variants.{Divider}
 use Rattle.timers.specs.declared.Setting.{Setting}
@@ -37,7 +37,7 @@ module _ (s : Setting) where
       let a0 = ticks by (s .t0) k (m .t0) in
       let a1 = ticks by (s .t1) k (m .t1) in
       record {
-        now =
+        moving =
             record {
               divider = m .divider;
               t0 = a0 .counting;
@@ -75,25 +75,25 @@ module _ (s : Setting) where
   same x q q′ d d′ hq hd = rw (hq, hd)
 
   -- n cycles are as many ticks as the divider comes round
-  pub cycles-are-ticks : (x : Spanned) → x .now .divider < 4 → (n : ℕ)
-      → iter n (cycle s) x ≡ atDivider (iter ((x .now .divider + n) / 4) (tickBoth Divider s) x) ((x .now .divider + n) % 4)
+  pub cycles-are-ticks : (x : Spanned) → x .moving .divider < 4 → (n : ℕ)
+      → iter n (cycle s) x ≡ atDivider (iter ((x .moving .divider + n) / 4) (tickBoth Divider s) x) ((x .moving .divider + n) % 4)
   cycles-are-ticks x h zero =
-      let d = x .now .divider in
+      let d = x .moving .divider in
       iter-zero (cycle s) x
       ∙ sym (ap (λ (y : Spanned). atDivider y d) (iter-zero (tickBoth Divider s) x))
       ∙ same x 0 ((d + 0) / 4) d ((d + 0) % 4) (omega arith) (omega arith)
   cycles-are-ticks x h (suc n) =
-      iter-suc (cycle s) n x ∙ ap (cycle s) (cycles-are-ticks x h n) ∙ go (decLt 0 ((x .now .divider + suc n) % 4))
+      iter-suc (cycle s) n x ∙ ap (cycle s) (cycles-are-ticks x h n) ∙ go (decLt 0 ((x .moving .divider + suc n) % 4))
     where
-      go : Dec (0 < (x .now .divider + suc n) % 4)
-          → cycle s (atDivider (iter ((x .now .divider + n) / 4) (tickBoth Divider s) x) ((x .now .divider + n) % 4))
-          ≡ atDivider (iter ((x .now .divider + suc n) / 4) (tickBoth Divider s) x) ((x .now .divider + suc n) % 4)
+      go : Dec (0 < (x .moving .divider + suc n) % 4)
+          → cycle s (atDivider (iter ((x .moving .divider + n) / 4) (tickBoth Divider s) x) ((x .moving .divider + n) % 4))
+          ≡ atDivider (iter ((x .moving .divider + suc n) / 4) (tickBoth Divider s) x) ((x .moving .divider + suc n) % 4)
       go (yes l) =
-          let d = x .now .divider in
+          let d = x .moving .divider in
           counts-on (iter ((d + n) / 4) (tickBoth Divider s) x) ((d + n) % 4) ((d + suc n) % 4) (omega arith) l
           ∙ same x ((d + n) / 4) ((d + suc n) / 4) ((d + suc n) % 4) ((d + suc n) % 4) (omega arith) refl
       go (no l) =
-          let d = x .now .divider in
+          let d = x .moving .divider in
           comes-round (iter ((d + n) / 4) (tickBoth Divider s) x) ((d + n) % 4) (omega arith)
           ∙ sym (ap (λ (y : Spanned). atDivider y 0) (iter-suc (tickBoth Divider s) ((d + n) / 4) x))
           ∙ same x (suc ((d + n) / 4)) ((d + suc n) / 4) 0 ((d + suc n) % 4) (omega arith) (omega arith)
@@ -108,16 +108,16 @@ module _ (s : Setting) where
       ∙ ap (λ (x : Spanned). atDivider x ((m .divider + n) % 4)) (ticks-apart Divider m ((m .divider + n) / 4)))
 
   -- so few cycles that no count ends: what they make of each timer, and of both
-  abbrev pub few0 : ℕ → Moving → Counted
+  abbrev pub few0 : ℕ → Moving → ShortCount
   few0 n m = fewOf (moves Divider (s .t0) (m .t0)) (s .t0 .p) ((m .divider + n) / 4) (m .t0 .timer)
 
-  abbrev pub few1 : ℕ → Moving → Counted
+  abbrev pub few1 : ℕ → Moving → ShortCount
   few1 n m = fewOf (moves Divider (s .t1) (m .t1)) (s .t1 .p) ((m .divider + n) / 4) (m .t1 .timer)
 
-  abbrev both-few : ℕ → Moving → Counts
+  abbrev both-few : ℕ → Moving → ShortMove
   both-few n m = record { few = true; divider = (m .divider + n) % 4; t0 = few0 n m .timer; t1 = few1 n m .timer }
 
-  abbrev pub counting : Moving → Counts → Moving
+  abbrev pub counting : Moving → ShortMove → Moving
   counting m x =
       record {
         divider = x .divider;
@@ -146,21 +146,21 @@ module _ (s : Setting) where
 
   -- the same, case by case, as the code finds it
   pub few-off : (n : ℕ) (m : Moving) → m .t0 .enabled ≡ false → m .t1 .enabled ≡ false
-      → _≡_ {A = Counts} (record { few = true; divider = (m .divider + n) % 4; t0 = m .t0 .timer; t1 = m .t1 .timer }) (fewCycles s n m)
+      → _≡_ {A = ShortMove} (record { few = true; divider = (m .divider + n) % 4; t0 = m .t0 .timer; t1 = m .t1 .timer }) (fewCycles s n m)
   unfolding fewCycles fewOf
   few-off n m e0 e1 = rw (e0, e1)
 
-  module _ (n : ℕ) (m : Moving) (a0 : Counted) (is0 : a0 ≡ few0 n m) where
+  module _ (n : ℕ) (m : Moving) (a0 : ShortCount) (is0 : a0 ≡ few0 n m) where
     pub few-not0 : a0 .few ≡ false → asBefore m ≡ fewCycles s n m
     unfolding fewCycles
     few-not0 f = rw (← is0, f)
 
-    module _ (a1 : Counted) (is1 : a1 ≡ few1 n m) (f0 : a0 .few ≡ true) where
+    module _ (a1 : ShortCount) (is1 : a1 ≡ few1 n m) (f0 : a0 .few ≡ true) where
       pub few-not1 : a1 .few ≡ false → asBefore m ≡ fewCycles s n m
       unfolding fewCycles
       few-not1 f = rw (← is0, ← is1, f0, f)
 
       pub few-both : a1 .few ≡ true
-          → _≡_ {A = Counts} (record { few = true; divider = (m .divider + n) % 4; t0 = a0 .timer; t1 = a1 .timer }) (fewCycles s n m)
+          → _≡_ {A = ShortMove} (record { few = true; divider = (m .divider + n) % 4; t0 = a0 .timer; t1 = a1 .timer }) (fewCycles s n m)
       unfolding fewCycles
       few-both f = rw (← is0, ← is1, f0, f)

@@ -75,31 +75,31 @@ module _ (s : Setup) (ls : LegalSetup s) where
   end-legal l h = latch-legal (s .request) (l .irq) (ls .request-high) h
 
 module _ (s : Setting) (ls : LegalSetting s) where
-  both-legal : (by : Source) (x : Spanned) → LegalMoving (x .now) → LegalMoving (tickBoth by s x .now)
+  both-legal : (by : Source) (x : Spanned) → LegalMoving (x .moving) → LegalMoving (tickBoth by s x .moving)
   unfolding tickBoth
   both-legal by x l =
       record {
         divider-high = l .divider-high;
-        counting0 = ticked-legal (s .t0) (ls .setup0) by (x .now .t0) (l .counting0);
-        counting1 = ticked-legal (s .t1) (ls .setup1) by (x .now .t1) (l .counting1);
+        counting0 = ticked-legal (s .t0) (ls .setup0) by (x .moving .t0) (l .counting0);
+        counting1 = ticked-legal (s .t1) (ls .setup1) by (x .moving .t1) (l .counting1);
         irq-high =
-            iter-keeps (endOf (s .t1)) (λ (y : Lines). y .irq < 64) (end-legal (s .t1) (ls .setup1)) (ticked by (s .t1) (x .now .t1) .ends) _
-            (iter-keeps (endOf (s .t0)) (λ (y : Lines). y .irq < 64) (end-legal (s .t0) (ls .setup0)) (ticked by (s .t0) (x .now .t0) .ends) (x .now .lines) (l .irq-high));
+            iter-keeps (endOf (s .t1)) (λ (y : Lines). y .irq < 64) (end-legal (s .t1) (ls .setup1)) (ticked by (s .t1) (x .moving .t1) .ends) _
+            (iter-keeps (endOf (s .t0)) (λ (y : Lines). y .irq < 64) (end-legal (s .t0) (ls .setup0)) (ticked by (s .t0) (x .moving .t0) .ends) (x .moving .lines) (l .irq-high));
       }
 
-  cycle-legal : (x : Spanned) → LegalMoving (x .now) → LegalMoving (cycle s x .now)
+  cycle-legal : (x : Spanned) → LegalMoving (x .moving) → LegalMoving (cycle s x .moving)
   unfolding cycle
   cycle-legal x l =
-      let d = (x .now .divider + 1) % 4 in
-      let counted : LegalMoving (atDivider x d .now) =
+      let d = (x .moving .divider + 1) % 4 in
+      let counted : LegalMoving (atDivider x d .moving) =
       record { divider-high = omega arith; counting0 = l .counting0; counting1 = l .counting1; irq-high = l .irq-high } in
-      by-test (λ (y : Spanned). LegalMoving (y .now)) (eqb d 0) (λ e. both-legal Divider (atDivider x d) counted) (λ e. counted)
+      by-test (λ (y : Spanned). LegalMoving (y .moving)) (eqb d 0) (λ e. both-legal Divider (atDivider x d) counted) (λ e. counted)
 
-  pub cycles-legal : (n : ℕ) (m : Moving) → LegalMoving m → LegalMoving (cycles s n m .now)
+  pub cycles-legal : (n : ℕ) (m : Moving) → LegalMoving m → LegalMoving (cycles s n m .moving)
   unfolding cycles
-  cycles-legal n m l = iter-keeps (cycle s) (λ (x : Spanned). LegalMoving (x .now)) cycle-legal n (begun m) l
+  cycles-legal n m l = iter-keeps (cycle s) (λ (x : Spanned). LegalMoving (x .moving)) cycle-legal n (begun m) l
 
-  pub edge-legal : (m : Moving) → LegalMoving m → LegalMoving (edgeOf s m .now)
+  pub edge-legal : (m : Moving) → LegalMoving m → LegalMoving (edgeOf s m .moving)
   unfolding edgeOf
   edge-legal m l = both-legal Edges (begun m) l
 

@@ -21,7 +21,7 @@ use Rattle.timers.specs.declared.Spanned.{Spanned}
 
 -- an edge of P31 leaves T0 and the divider, whatever the registers say
 pub edge-leaves-t0 : (c : Control) (m : Moving)
-    → (edgeOf (settingOf c) m .now .t0 ≡ m .t0) × (edgeOf (settingOf c) m .ends0 ≡ 0) × (edgeOf (settingOf c) m .now .divider ≡ m .divider)
+    → (edgeOf (settingOf c) m .moving .t0 ≡ m .t0) × (edgeOf (settingOf c) m .ends0 ≡ 0) × (edgeOf (settingOf c) m .moving .divider ≡ m .divider)
 unfolding edgeOf tickBoth ticked settingOf setupOf
 edge-leaves-t0 c m = (rw (and-false (m .t0 .enabled)), rw (and-false (m .t0 .enabled)), refl)
 
@@ -43,7 +43,7 @@ module _ (s : Setting) where
   both-within : (by : Source) (n : ℕ) (x : Spanned) → Within n x → Within (suc n) (tickBoth by s x)
   unfolding tickBoth
   both-within by n x h =
-      (omega (arith, h .0, ticked-ends by (s .t0) (x .now .t0)), omega (arith, h .1, ticked-ends by (s .t1) (x .now .t1)))
+      (omega (arith, h .0, ticked-ends by (s .t0) (x .moving .t0)), omega (arith, h .1, ticked-ends by (s .t1) (x .moving .t1)))
 
   pub edge-within : (m : Moving) → Within 1 (edgeOf s m)
   unfolding edgeOf
@@ -52,7 +52,7 @@ module _ (s : Setting) where
   cycle-within : (n : ℕ) (x : Spanned) → Within n x → Within (suc n) (cycle s x)
   unfolding cycle
   cycle-within n x h =
-      let d = (x .now .divider + 1) % 4 in
+      let d = (x .moving .divider + 1) % 4 in
       by-test (Within (suc n)) (eqb d 0) (λ t. both-within Divider n (atDivider x d) h) (λ t. (omega (arith, h .0), omega (arith, h .1)))
 
   pub cycles-within : (n : ℕ) (m : Moving) → Within n (cycles s n m)

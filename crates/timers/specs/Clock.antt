@@ -29,15 +29,15 @@ endOf s l = record { irq = latch (s .request) (l .irq); tout = flips (s .drives)
 -- one tick from this source for both timers; each that ends, once, does what its end does
 unfoldable pub tickBoth : Source → Setting → Spanned → Spanned
 tickBoth by s x =
-    let a0 = ticked by (s .t0) (x .now .t0) in
-    let a1 = ticked by (s .t1) (x .now .t1) in
+    let a0 = ticked by (s .t0) (x .moving .t0) in
+    let a1 = ticked by (s .t1) (x .moving .t1) in
     record {
-      now =
+      moving =
           record {
-            divider = x .now .divider;
+            divider = x .moving .divider;
             t0 = a0 .counting;
             t1 = a1 .counting;
-            lines = iter (a1 .ends) (endOf (s .t1)) (iter (a0 .ends) (endOf (s .t0)) (x .now .lines));
+            lines = iter (a1 .ends) (endOf (s .t1)) (iter (a0 .ends) (endOf (s .t0)) (x .moving .lines));
           };
       ends0 = x .ends0 + a0 .ends;
       ends1 = x .ends1 + a1 .ends;
@@ -45,17 +45,17 @@ tickBoth by s x =
 
 abbrev pub atDivider : Spanned → ℕ → Spanned
 atDivider x d =
-    record { now = record { divider = d; t0 = x .now .t0; t1 = x .now .t1; lines = x .now .lines }; ends0 = x .ends0; ends1 = x .ends1 }
+    record { moving = record { divider = d; t0 = x .moving .t0; t1 = x .moving .t1; lines = x .moving .lines }; ends0 = x .ends0; ends1 = x .ends1 }
 
 -- one cycle: "The divider counts cycles modulo 4; each return to 0 is one tick."
 unfoldable pub cycle : Setting → Spanned → Spanned
 cycle s x =
-    let d = (x .now .divider + 1) % 4 in
+    let d = (x .moving .divider + 1) % 4 in
     pick (eqb d 0) (tickBoth Divider s (atDivider x d)) (atDivider x d)
 
 -- no ends yet
 abbrev pub begun : Moving → Spanned
-begun m = record { now = m; ends0 = 0; ends1 = 0 }
+begun m = record { moving = m; ends0 = 0; ends1 = 0 }
 
 -- n cycles, one by one, with the registers as they stand and each timer's ends counted. (A machine's own, which read its registers at each
 -- cycle, are `spanOf`; that the two are the same is proved: `span-is`.)

@@ -10,13 +10,13 @@ use Rattle.timers.specs.declared.Setup.{Setup}
 use Rattle.timers.specs.declared.Counting.{Counting}
 use Rattle.timers.specs.declared.Ticked.{Ticked}
 use Rattle.timers.specs.declared.Timer.{Timer}
-use Rattle.timers.specs.declared.ticks.Counted.{Counted}
+use Rattle.timers.specs.declared.ticks.ShortCount.{ShortCount}
 use Rattle.timers.specs.Timer.{countAt, noEnd, moves, ticked}
 use Rattle.timers.specs.declared.Setting.{Setting}
 use Rattle.timers.specs.declared.Moving.{Moving}
 use Rattle.timers.specs.declared.Spanned.{Spanned}
 use Rattle.timers.specs.declared.clock.Round.{Round}
-use Rattle.timers.specs.declared.clock.Counts.{Counts}
+use Rattle.timers.specs.declared.clock.ShortMove.{ShortMove}
 
 -- For the contracts of the move by division alone: one tick more, its end counted; k ticks; whether they leave the timer within this
 -- round of its prescaler, and its count then; and a count of so many whole rounds of the prescaler, r ticks later.
@@ -39,15 +39,15 @@ down c p rounds r = countAt c (p - r % p) (rounds - r / p)
 
 -- For the contracts of the short move: whether k ticks are so few that the count doesn't end, and the count after them; where it ends, as
 -- before. Of ticks that pass this round of the prescaler; and of any, which move the timer or don't.
-abbrev pub fewTo : ℕ → ℕ → Counted
+abbrev pub fewTo : ℕ → ℕ → ShortCount
 fewTo prescaler counter = record { few = true; timer = record { prescaler = prescaler; counter = counter } }
 
-unfoldable pub turnedOf : ℕ → ℕ → Timer → Counted
+unfoldable pub turnedOf : ℕ → ℕ → Timer → ShortCount
 turnedOf p k t =
     let past = k - t .prescaler in
     pick (ltb past (p * (t .counter - 1))) (fewTo (p - past % p) (t .counter - 1 - past / p)) (record { few = false; timer = t })
 
-unfoldable pub fewOf : Bool → ℕ → ℕ → Timer → Counted
+unfoldable pub fewOf : Bool → ℕ → ℕ → Timer → ShortCount
 fewOf moving p k t =
     pick moving
     (pick (ltb k (t .prescaler)) (fewTo (t .prescaler - k) (t .counter)) (turnedOf p k t))
@@ -58,10 +58,10 @@ fewOf moving p k t =
 abbrev pub roundOf : ℕ → ℕ → Round
 roundOf divider n = record { ticks = (divider + n) / 4; divider = (divider + n) % 4 }
 
-abbrev pub asBefore : Moving → Counts
+abbrev pub asBefore : Moving → ShortMove
 asBefore m = record { few = false; divider = m .divider; t0 = m .t0 .timer; t1 = m .t1 .timer }
 
-unfoldable pub fewCycles : Setting → ℕ → Moving → Counts
+unfoldable pub fewCycles : Setting → ℕ → Moving → ShortMove
 fewCycles s n m =
     let k = (m .divider + n) / 4 in
     let a0 = fewOf (moves Divider (s .t0) (m .t0)) (s .t0 .p) k (m .t0 .timer) in
@@ -70,4 +70,4 @@ fewCycles s n m =
 
 -- For the theorems. The same with ends added; and either timer's part, as the closed formula speaks of either.
 abbrev pub added : Spanned → ℕ → ℕ → Spanned
-added x e0 e1 = record { now = x .now; ends0 = x .ends0 + e0; ends1 = x .ends1 + e1 }
+added x e0 e1 = record { moving = x .moving; ends0 = x .ends0 + e0; ends1 = x .ends1 + e1 }

@@ -68,13 +68,13 @@ fn tick_both(by: Source, s: Setting, m: Moving, k: u32) -> Spanned
     let second = ended(s1, first, ends1);
     let t0 = a0.counting;
     let t1 = a1.counting;
-    let now = Moving {
+    let moving = Moving {
         divider,
         t0,
         t1,
         lines: second,
     };
-    Spanned { now, ends0, ends1 }
+    Spanned { moving, ends0, ends1 }
 }
 
 // The ticks of the divider in some cycles, and the divider after them.
@@ -109,7 +109,7 @@ pub fn span(c: Control, m: Moving, n: u32) -> Spanned
 }
 
 // Whether some cycles were so few that no count ended, and the divider and both counts after them; where one ended, they are as before.
-pub struct Counts {
+pub struct ShortMove {
     pub few: bool,
     pub divider: u32,
     pub t0: Timer,
@@ -124,7 +124,7 @@ fn divider_after(divider: u32, n: u32) -> u32
     (divider + n % 4) % 4
 }
 
-fn as_before(m: Moving) -> Counts
+fn as_before(m: Moving) -> ShortMove
     ensures { λ r. ⌜ r ≡ asBefore m ⌝ }
 {
     let c0 = m.t0;
@@ -132,7 +132,7 @@ fn as_before(m: Moving) -> Counts
     let t0 = c0.timer;
     let t1 = c1.timer;
     let divider = m.divider;
-    Counts {
+    ShortMove {
         few: false,
         divider,
         t0,
@@ -142,7 +142,7 @@ fn as_before(m: Moving) -> Counts
 
 // n cycles, where no count ends in them, as mostly none does. Each test stands before what is asked for after it, so that a timer that is
 // off, or stays within its prescaler's round, costs no more than to see that.
-pub fn few_cycles(c: Control, m: Moving, n: u32) -> Counts
+pub fn few_cycles(c: Control, m: Moving, n: u32) -> ShortMove
     requires { ⌜ LegalMoving m ⌝ }
     ensures { λ r. ⌜ r ≡ fewCycles (settingOf c) n m ⌝ }
 {
@@ -152,7 +152,7 @@ pub fn few_cycles(c: Control, m: Moving, n: u32) -> Counts
         let divider = divider_after(m.divider, n);
         let t0 = c0.timer;
         let t1 = c1.timer;
-        return Counts {
+        return ShortMove {
             few: true,
             divider,
             t0,
@@ -171,7 +171,7 @@ pub fn few_cycles(c: Control, m: Moving, n: u32) -> Counts
     }
     let t0 = a0.timer;
     let t1 = a1.timer;
-    Counts {
+    ShortMove {
         few: true,
         divider: d.divider,
         t0,

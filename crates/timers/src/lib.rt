@@ -73,7 +73,7 @@ pub struct Moving {
 
 // The same after some cycles, with each timer's ends.
 pub struct Spanned {
-    pub now: Moving,
+    pub moving: Moving,
     pub ends0: u32,
     pub ends1: u32,
 }

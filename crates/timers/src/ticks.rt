@@ -101,13 +101,13 @@ fn down(c: Counting, p: u32, rounds: u32, r: u32) -> Counting
 }
 
 // Whether some ticks were so few that the count didn't end, and the count after them; where it ended, it is as before.
-pub struct Counted {
+pub struct ShortCount {
     pub few: bool,
     pub timer: Timer,
 }
 
 // k ticks that pass this round of the prescaler, where they don't end the count.
-fn turned(p: u32, c: Counting, k: u32) -> Counted
+fn turned(p: u32, c: Counting, k: u32) -> ShortCount
     requires { ⌜ 0 < p ⌝ }
     requires { ⌜ p ≤ 64 ⌝ }
     requires { ⌜ LegalCounting c ⌝ }
@@ -121,9 +121,9 @@ fn turned(p: u32, c: Counting, k: u32) -> Counted
     if past < left {
         let after = down(c, p, rounds, past);
         let timer = after.timer;
-        return Counted { few: true, timer };
+        return ShortCount { few: true, timer };
     }
-    Counted {
+    ShortCount {
         few: false,
         timer: before,
     }
@@ -131,13 +131,13 @@ fn turned(p: u32, c: Counting, k: u32) -> Counted
 
 // k ticks that move the timer, or don't, where they don't end the count. Mostly they stay within this round of the prescaler, so P is made
 // of its register, `pre`, where it is asked for and not before.
-pub fn few_ticks(moving: bool, pre: u8, c: Counting, k: u32) -> Counted
+pub fn few_ticks(moving: bool, pre: u8, c: Counting, k: u32) -> ShortCount
     requires { ⌜ LegalCounting c ⌝ }
     ensures { λ r. ⌜ r ≡ fewOf moving (orHighest 64 (pre / 4)) k (c .timer) ⌝ }
 {
     let before = c.timer;
     if !moving {
-        return Counted {
+        return ShortCount {
             few: true,
             timer: before,
         };
@@ -147,7 +147,7 @@ pub fn few_ticks(moving: bool, pre: u8, c: Counting, k: u32) -> Counted
             prescaler: before.prescaler - k,
             counter: before.counter,
         };
-        return Counted { few: true, timer };
+        return ShortCount { few: true, timer };
     }
     let p = crate::registers::or_highest(64, pre / 4);
     turned(p, c, k)

@@ -220,7 +220,7 @@ fn with_state(h: u32, m: Moving) -> u32 {
 }
 
 fn ended(x: Spanned) -> u32 {
-    let now = x.now;
+    let now = x.moving;
     with_state(mixed(mixed(0, x.ends0), x.ends1), now)
 }
 

@@ -11,32 +11,32 @@ use Rattle.deeds.proofs.Fits.{AllRead}
 use Rattle.saved.specs.Saved.{machineOf, savedOf}
 use Rattle.step.specs.Step.{Progress, stepOf}
 use Rattle.step.specs.Run.{budgetRefusal}
-use Rattle.step.specs.declared.Stepped.{Stepped}
-use Rattle.step.specs.declared.Passed.{Passed}
+use Rattle.step.specs.declared.Progress as stepped
+use Rattle.step.specs.declared.Ran as passed
 use Rattle.step.proofs.Theorems.{refused-step}
 use Rattle.saved.specs.declared.Loaded.{Loaded}
 use Rattle.z8.specs.Calls.{Lent, answer, lent, lentSpan, leftBy, stepCallOf, runCallOf}
 use Rattle.z8.proofs.Refusals.{is-refused, not-admitted}
 use Rattle.saved.specs.ForCode.{loadOf}
-use Rattle.step.specs.ForCode.{steppedOf, passedOf}
+use Rattle.step.specs.ForCode.{progressOf, ranBy}
 use Rattle.z8.specs.ForCode.{admittedOf}
 
 -- what a step or a run is, by value and beside the memory, and saved
-pub left-is : (s : Stepped) (memory saved : List ℕ) (t : Progress) → steppedOf memory s ≡ t → saved ≡ savedOf (s .machine)
+pub left-is : (s : stepped.Progress) (memory saved : List ℕ) (t : Progress) → progressOf memory s ≡ t → saved ≡ savedOf (s .machine)
     → lent saved memory (s .cycles) (s .ends0) (s .ends1) ≡ leftBy t
 left-is s memory saved t e v = rw v (ap leftBy e)
 
-pub number-is : (s : Stepped) (memory : List ℕ) (t : Progress) → steppedOf memory s ≡ t → s .refusal ≡ t .refusal
+pub number-is : (s : stepped.Progress) (memory : List ℕ) (t : Progress) → progressOf memory s ≡ t → s .refusal ≡ t .refusal
 number-is s memory t e = ap (λ (x : Progress). x .refusal) e
 
 -- a refused step has left the data memory
-pub memory-stays : (p : Pins) (image memory : List ℕ) (m : Machine) (s : Stepped) (after : List ℕ) → Legal m → LegalPins p → AllRead image → AllRead memory
-    → steppedOf after s ≡ stepOf p image memory m → (s .refusal ≡ 0 → ⊥) → after ≡ memory
+pub memory-stays : (p : Pins) (image memory : List ℕ) (m : Machine) (s : stepped.Progress) (after : List ℕ) → Legal m → LegalPins p → AllRead image → AllRead memory
+    → progressOf after s ≡ stepOf p image memory m → (s .refusal ≡ 0 → ⊥) → after ≡ memory
 memory-stays p image memory m s after l lp li lm e d =
     ap (λ (x : Progress). x .memory) e
     ∙ ap (λ (x : Progress). x .memory) (refused-step p image lp li memory m l lm (λ z. d (number-is s after _ e ∙ z)))
 
-pub span-left : (q : Passed) (saved : List ℕ) (t : Ran) → passedOf q ≡ t → saved ≡ savedOf (q .machine)
+pub span-left : (q : passed.Ran) (saved : List ℕ) (t : Ran) → ranBy q ≡ t → saved ≡ savedOf (q .machine)
     → lentSpan saved (q .ends0) (q .ends1) ≡ lentSpan (savedOf (t .machine)) (t .ends0) (t .ends1)
 span-left q saved t e v = rw v (ap (λ (x : Ran). lentSpan (savedOf (x .machine)) (x .ends0) (x .ends1)) e)
 

@@ -54,10 +54,10 @@ pub record Four : Type 0 where
   pub one : ℕ
   pub two : ℕ
   pub three : ℕ
-  pub length : ℕ
+  pub size : ℕ
 
 abbrev pub four : ℕ → ℕ → ℕ → ℕ → Four
-four one two three length = record { one = one; two = two; three = three; length = length }
+four one two three size = record { one = one; two = two; three = three; size = size }
 
 -- the pins of ports 0 to 3
 abbrev pub pinsGiven : ℕ → ℕ → ℕ → ℕ → Pins
@@ -100,7 +100,7 @@ resetCallOf saved = unlessRefused (refusalOf saved) saved (savedOf (resetOf (mac
 
 -- decoding: 1, 5. What stands at the address is decoded if the image isn't refused.
 abbrev pub decodedInto : Four → Decoded → Answer Four
-decodedInto given (decoded.Instruction op first second length) = answer 0 (four op first second length)
+decodedInto given (decoded.Instruction op first second size) = answer 0 (four op first second size)
 decodedInto given (decoded.Refused n) = answer n given
 
 unfoldable pub decodeCallOf : List ℕ → ℕ → Four → Answer Four
@@ -112,7 +112,7 @@ decodeCallOf image at given =
 
 -- encoding: 8
 abbrev pub encodedInto : Four → Encoded → Answer Four
-encodedInto given (encoded.Bytes length b0 b1 b2) = answer 0 (four b0 b1 b2 length)
+encodedInto given (encoded.Bytes size b0 b1 b2) = answer 0 (four b0 b1 b2 size)
 encodedInto given (encoded.Refused n) = answer n given
 
 unfoldable pub encodeCallOf : ℕ → ℕ → ℕ → Four → Answer Four

@@ -74,9 +74,9 @@ pub extern "C" fn z8_decode(
     opcode: &mut u8,
     first: &mut u8,
     second: &mut u8,
-    length: &mut u8,
+    size: &mut u8,
 ) -> u32
-    ensures { λ r. ⌜ answer r (four (now (opcode .exit)) (now (first .exit)) (now (second .exit)) (now (length .exit))) ≡ decodeCallOf (now (image .entry)) at (four (now (opcode .entry)) (now (first .entry)) (now (second .entry)) (now (length .entry))) ⌝ }
+    ensures { λ r. ⌜ answer r (four (now (opcode .exit)) (now (first .exit)) (now (second .exit)) (now (size .exit))) ≡ decodeCallOf (now (image .entry)) at (four (now (opcode .entry)) (now (first .entry)) (now (second .entry)) (now (size .entry))) ⌝ }
 {
     if numbers::IMAGE_MOST < image.len() {
         return numbers::REFUSED_IMAGE as u32;
@@ -89,7 +89,7 @@ pub extern "C" fn z8_decode(
             *opcode = op;
             *first = a;
             *second = b;
-            *length = n;
+            *size = n;
             DONE
         }
     }
@@ -104,9 +104,9 @@ pub extern "C" fn z8_encode(
     byte0: &mut u8,
     byte1: &mut u8,
     byte2: &mut u8,
-    length: &mut u8,
+    size: &mut u8,
 ) -> u32
-    ensures { λ r. ⌜ answer r (four (now (byte0 .exit)) (now (byte1 .exit)) (now (byte2 .exit)) (now (length .exit))) ≡ encodeCallOf opcode first second (four (now (byte0 .entry)) (now (byte1 .entry)) (now (byte2 .entry)) (now (length .entry))) ⌝ }
+    ensures { λ r. ⌜ answer r (four (now (byte0 .exit)) (now (byte1 .exit)) (now (byte2 .exit)) (now (size .exit))) ≡ encodeCallOf opcode first second (four (now (byte0 .entry)) (now (byte1 .entry)) (now (byte2 .entry)) (now (size .entry))) ⌝ }
 {
     let e = opcodes::instruction::encode(opcode, first, second);
     match e {
@@ -115,7 +115,7 @@ pub extern "C" fn z8_encode(
             *byte0 = b0;
             *byte1 = b1;
             *byte2 = b2;
-            *length = n;
+            *size = n;
             DONE
         }
     }

@@ -33,11 +33,20 @@ own-fit-requires c κs = search needs
 holes-empty-requires : tie.Need-holes-empty-requires
 holes-empty-requires c κs = search needs
 
+cast-bits-clear : tie.Need-cast-bits-clear
+cast-bits-clear c = search needs
+
 shared-slice-read-bits-clear : tie.Need-shared-slice-read-bits-clear
 shared-slice-read-bits-clear c = search needs
 
+cast-bits-clear-2 : tie.Need-cast-bits-clear-2
+cast-bits-clear-2 c = search needs
+
 shared-slice-read-bits-clear-2 : tie.Need-shared-slice-read-bits-clear-2
 shared-slice-read-bits-clear-2 c = search needs
+
+cast-bits-clear-3 : tie.Need-cast-bits-clear-3
+cast-bits-clear-3 c = search needs
 
 shared-slice-read-bits-clear-3 : tie.Need-shared-slice-read-bits-clear-3
 shared-slice-read-bits-clear-3 c = search needs
@@ -63,8 +72,11 @@ is-legal-spec =
     shared-slice-read-own-fit-4
     own-fit-requires
     holes-empty-requires
+    cast-bits-clear
     shared-slice-read-bits-clear
+    cast-bits-clear-2
     shared-slice-read-bits-clear-2
+    cast-bits-clear-3
     shared-slice-read-bits-clear-3
     bits-clear-requires
     returns)

@@ -13,14 +13,14 @@ use Rattle.lent.specs.View.{machineIn}
 use Rattle.interrupts.specs.Edges.{Comparison}
 use Rattle.interrupts.proofs.Steady.{compared-last}
 use Rattle.interrupts.proofs.Legal.{compared-legal, compared-ends}
-use Rattle.step.specs.ForCode.{progressOf}
+use Rattle.step.specs.ForCode.{progressIn}
 use Rattle.step.specs.Run.{stepsOf}
 use Rattle.step.proofs.Acts.{read-any}
 use Rattle.step.proofs.Turns.{SoFar, at-first, was-taken, one-on, was-refused, reached, refused-first, compared-before}
 
 abbrev Inv-loop : tie.InvT-loop
 Inv-loop regs₀ rest₀ pins image mem₀ budget refused cycles₀ ends0₀ ends1₀ regs rest mem cycles ends0 ends1 =
-    SoFar pins image mem₀ (machineIn regs₀ rest₀) ends1₀ budget (progressOf (machineIn regs rest) mem (record { refusal = 0; cycles = cycles; ends0 = ends0; ends1 = ends1 })) × (length mem ≡ length mem₀)
+    SoFar pins image mem₀ (machineIn regs₀ rest₀) ends1₀ budget (progressIn (machineIn regs rest) mem (record { refusal = 0; cycles = cycles; ends0 = ends0; ends1 = ends1 })) × (length mem ≡ length mem₀)
 
 abbrev μ-loop : tie.MeasureT-loop
 μ-loop regs₀ rest₀ pins image mem₀ budget refused cycles₀ ends0₀ ends1₀ regs rest mem cycles ends0 ends1 =
