@@ -1,5 +1,5 @@
 -- The numbers that a caller sees and every definition shares (01 "Numbers the encoder sees").
-use Prim.Native.Nat.{ℕ}
+use Prim.Native.Nat.{ℕ, _+_, _*_}
 
 -- ---- 01's table: "given exactly when"
 
@@ -54,3 +54,18 @@ dataMost = 65536
 
 abbrev pub budgetMost : ℕ
 budgetMost = 1000000
+
+-- ---- this library's version, as include/z8.h and CHANGELOG.md have it
+
+abbrev pub versionMajor : ℕ
+versionMajor = 1
+
+abbrev pub versionMinor : ℕ
+versionMinor = 1
+
+abbrev pub versionPatch : ℕ
+versionPatch = 0
+
+-- "65,536 x MAJOR + 256 x MINOR + PATCH" (include/z8.h)
+abbrev pub version : ℕ
+version = 65536 * versionMajor + 256 * versionMinor + versionPatch

@@ -30,5 +30,12 @@ pub const IMAGE_MOST: usize = 65536;
 
 pub const DATA_MOST: usize = 65536;
 
+// The library's version, as include/z8.h and CHANGELOG.md have it.
+pub const VERSION_MAJOR: u32 = 1;
+
+pub const VERSION_MINOR: u32 = 1;
+
+pub const VERSION_PATCH: u32 = 0;
+
 // The most cycles of a run's budget.
 pub const BUDGET_MOST: u32 = 1000000;

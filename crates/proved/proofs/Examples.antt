@@ -1,64 +1,107 @@
 -- 01's examples hold, all together, computed from the definitions.
 use mathlib.Core.Path.{_≡_, refl, ap, _∙_}
 use lib.Dec.{T}
+use lib.ListN.{length}
 use Prim.Native.Nat.{ℕ, _+_, _/_, _<_}
 use native.Mathlib.Nat.{add-zero}
 use native.Mathlib.Omega.{arith}
+use Rattle.numbers.specs.Numbers.{fileLength}
 use Rattle.word.specs.Words.{dispOf, movedBy}
 use Rattle.alu.specs.FlagByte.{laid, packed}
 use Rattle.alu.specs.Arithmetic.{addOf, additionOf, subOf, subtractionOf, differenceOf, incOf, decwOf, sumOverflow, differenceOverflow}
 use Rattle.alu.specs.Logical.{andOf, logicFlags}
 use Rattle.alu.specs.Rotate.{rlOf, sraOf, rotateFlags}
 use Rattle.alu.specs.Decimal.{daOf, byRows, adjustedBy, afterAddition, afterSubtraction}
+use Rattle.alu.specs.Conditions.{holdsOf}
 use Rattle.timers.specs.Iter.{iter}
 use Rattle.timers.specs.Requests.{latch}
 use Rattle.timers.specs.Control.{orHighest, setupOf, dividerMovesT1, edgesMoveT1, settingOf, kept}
 use Rattle.timers.specs.Timer.{tick, ticked, timerWritten}
 use Rattle.timers.specs.Clock.{endOf, tickBoth, cycle, cycles, toutWritten, written, T0, Steady, LegalMoving}
-use Rattle.timers.specs.Timer.{LegalCounting}
-use Rattle.timers.proofs.Legal.{written-legal}
 use Rattle.timers.proofs.Formula.{formula-by-registers}
-use Rattle.timers.specs.declared.Control.{Control}
-use Rattle.alu.specs.Conditions.{holdsOf}
 use Rattle.opcodes.specs.Map.{entryOf, opcodeMap}
 use Rattle.opcodes.specs.Instruction.{lengthOf}
 use Rattle.opcodes.specs.Cycles.{cyclesOf, cycleMap}
-use Rattle.machine.specs.State.{heldIn, placedIn, placed, withPc, withLast3}
+use Rattle.machine.specs.Names.{TMR}
+use Rattle.machine.specs.State.{heldIn, placedIn, held, placed, withPc, withLast3}
 use Rattle.machine.specs.Registers.{readReg, writeReg}
-use Rattle.machine.specs.Addresses.{workingAt}
+use Rattle.machine.specs.Addresses.{workingAt, registerAt, readPair, writePair}
 use Rattle.machine.specs.Memory.{programByte}
 use Rattle.machine.specs.Stack.{pushed, pushedInternal}
-use Rattle.machine.specs.Clock.{controlWith, controlOf, movingOf, enabling, countsAt, movedTo, seen, shown, cycleOf, spanOf}
+use Rattle.machine.specs.Clock.{controlWith, controlOf, movingOf, enabling, countsAt, movedTo, writeTmr, seen, shown, cycleOf, spanOf}
 use Rattle.machine.specs.Start.{resetPlaces, newOf, defaultOf}
-use Rattle.deeds.specs.Pages.{djnzDeed, jrDeed, deedOf, outcomeOf}
-use Rattle.execute.specs.Doing.{jumped, looped, interruptsTo, doneOf}
+use Rattle.machine.specs.declared.Machine.{Machine}
+use Rattle.machine.proofs.Lens.{span-is}
+use Rattle.deeds.specs.Modes.{oneAt, operandsOf}
+use Rattle.deeds.specs.Results.{binaryOf, unaryOf, pairedOf}
+use Rattle.deeds.specs.Pages.{binaryDeed, unaryDeed, adjustDeed, daDeed, pairedDeed, djnzDeed, jrDeed, deedOf, outcomeOf}
+use Rattle.execute.specs.Doing.{flagged, storedAt, wordStoredAt, jumped, looped, interruptsTo, doneOf}
 use Rattle.execute.specs.Execute.{codeAt, performOf, executeAs, executeOf}
 use Rattle.interrupts.specs.Edges.{fell, latchedIf, latchedBy, movedByEdges, comparedOf}
 use Rattle.interrupts.specs.Grants.{groupA, groupB, groupC, ordered, priorities, firstStanding, granted, grantOf}
 use Rattle.interrupts.specs.Entry.{cleared, vectorOf, acknowledged, enteredOf}
 use Rattle.step.specs.Step.{grantedOr, actOn, actionOf, clockedOn, stepOf}
-use Rattle.proved.specs.Examples.{all, examples, resting, restingAt, registers, freshLoad, endsIn}
+use Rattle.proved.specs.Examples.{all, examples, freshLoad, endsIn}
+
+-- Cycles of a machine are cycles of what they move, and these are computed one by one.
+module _ (divider pre0 t0 : ℕ) where
+  abbrev loaded : Machine
+  loaded = freshLoad divider pre0 t0
+
+  long : length (loaded .regs) ≡ fileLength
+  unfolding writeTmr countsAt placed placedIn resetPlaces newOf defaultOf
+  long = refl
+
+  tmr-byte : held loaded TMR < 256
+  unfolding writeTmr countsAt kept heldIn placed placedIn resetPlaces newOf defaultOf
+  tmr-byte = omega arith
+
+  ends-are : (n : ℕ) → endsIn divider pre0 t0 n ≡ cycles (settingOf (controlOf loaded)) n (movingOf loaded) .ends0
+  unfolding endsIn shown
+  ends-are n = rw (span-is loaded long tmr-byte n)
 
 pub examples-hold : T (all examples)
-unfolding examples laid packed addOf additionOf subOf subtractionOf differenceOf incOf decwOf sumOverflow differenceOverflow andOf logicFlags rlOf sraOf rotateFlags daOf byRows adjustedBy afterAddition afterSubtraction dispOf movedBy iter latch orHighest setupOf dividerMovesT1 edgesMoveT1 settingOf kept tick ticked timerWritten endOf tickBoth cycle cycles toutWritten written heldIn placedIn placed withPc resetPlaces newOf defaultOf readReg writeReg workingAt programByte entryOf opcodeMap lengthOf cyclesOf cycleMap holdsOf djnzDeed jrDeed deedOf outcomeOf jumped looped doneOf codeAt performOf executeAs executeOf withLast3 pushed pushedInternal controlWith controlOf movingOf enabling countsAt movedTo seen shown cycleOf spanOf interruptsTo fell latchedIf latchedBy movedByEdges comparedOf groupA groupB groupC ordered priorities firstStanding granted grantOf cleared vectorOf acknowledged enteredOf grantedOr actOn actionOf clockedOn stepOf
-examples-hold = tt
+unfolding examples
+    laid packed addOf additionOf subOf subtractionOf differenceOf incOf decwOf sumOverflow differenceOverflow andOf logicFlags
+    rlOf sraOf rotateFlags daOf byRows adjustedBy afterAddition afterSubtraction holdsOf dispOf movedBy
+    iter latch orHighest setupOf dividerMovesT1 edgesMoveT1 settingOf kept tick ticked timerWritten endOf tickBoth cycle cycles
+    toutWritten written
+    entryOf opcodeMap lengthOf cyclesOf cycleMap
+    heldIn placedIn placed withPc withLast3 resetPlaces newOf defaultOf readReg writeReg workingAt registerAt readPair writePair
+    programByte pushed pushedInternal
+    controlWith controlOf movingOf enabling countsAt movedTo writeTmr seen shown cycleOf spanOf
+    oneAt operandsOf binaryOf unaryOf pairedOf binaryDeed unaryDeed adjustDeed daDeed pairedDeed djnzDeed jrDeed deedOf outcomeOf
+    flagged storedAt wordStoredAt jumped looped interruptsTo doneOf codeAt performOf executeAs executeOf
+    fell latchedIf latchedBy movedByEdges comparedOf groupA groupB groupC ordered priorities firstStanding granted grantOf
+    cleared vectorOf acknowledged enteredOf grantedOr actOn actionOf clockedOn stepOf
+examples-hold =
+    rw (
+      ends-are 0 0x0D 0x02 23,
+      ends-are 0 0x0D 0x02 24,
+      ends-are 0 0x0D 0x02 48,
+      ends-are 0 0x01 0x00 65535,
+      ends-are 0 0x01 0x00 65536,
+    ) tt
 
 -- P 1, N 1, fresh load: by the formula, as the longest span is too long to be computed cycle by cycle
-abbrev shortest : ℕ → Control
-shortest tmr = registers tmr 0x05 0x01
+module _ (divider : ℕ) (low : divider < 4) where
+  abbrev quickest : Machine
+  quickest = freshLoad divider 0x05 0x01
 
-steady : (d : ℕ) → Steady (settingOf (shortest (kept 0x03)) .t0) (freshLoad d 0x05 0x01 .t0)
-unfolding settingOf setupOf orHighest kept written timerWritten
-steady d = record { clocked = refl; enabled = refl; repeating = refl; prescaler-within = omega arith; counter-within = omega arith }
+  legal : LegalMoving (movingOf quickest)
+  unfolding movingOf writeTmr countsAt written timerWritten kept controlWith heldIn placed placedIn resetPlaces newOf defaultOf orHighest setupOf settingOf
+  legal = record { divider-high = low; counting0 = omega arith; counting1 = omega arith; irq-high = omega arith }
 
-ends-of-the-quickest : (d n : ℕ) → d < 4 → endsIn d 0x05 0x01 n ≡ (n + d) / 4
-unfolding settingOf setupOf orHighest kept written timerWritten
-ends-of-the-quickest d n h =
-    let rests : LegalCounting resting = omega arith in
-    let before : LegalMoving (restingAt d) = record { divider-high = h; counting0 = rests; counting1 = rests; irq-high = omega arith } in
-    let legal : LegalMoving (freshLoad d 0x05 0x01) = written-legal (shortest 0x03) (restingAt d) (omega arith) before in
-    formula-by-registers (shortest (kept 0x03)) (freshLoad d 0x05 0x01) (omega arith) legal T0 n (steady d)
-    ∙ ap (λ (x : ℕ). (n + x) / 4) (add-zero d)
+  steady : Steady (settingOf (controlOf quickest) .t0) (movingOf quickest .t0)
+  unfolding movingOf controlOf writeTmr countsAt written timerWritten kept controlWith heldIn placed placedIn resetPlaces newOf defaultOf orHighest setupOf settingOf
+  steady = record { clocked = refl; enabled = refl; repeating = refl; prescaler-within = omega arith; counter-within = omega arith }
+
+  ends-of-the-quickest : (n : ℕ) → endsIn divider 0x05 0x01 n ≡ (n + divider) / 4
+  unfolding movingOf controlOf writeTmr countsAt written timerWritten kept controlWith heldIn placed placedIn resetPlaces newOf defaultOf orHighest setupOf settingOf
+  ends-of-the-quickest n =
+      ends-are divider 0x05 0x01 n
+      ∙ formula-by-registers (controlOf quickest) (movingOf quickest) (omega arith) legal T0 n steady
+      ∙ ap (λ (x : ℕ). (n + x) / 4) (add-zero divider)
 
 pub longest-span : (endsIn 0 0x05 0x01 4294967295 ≡ 1073741823) × (endsIn 1 0x05 0x01 4294967295 ≡ 1073741824)
-longest-span = (ends-of-the-quickest 0 4294967295 (omega arith), ends-of-the-quickest 1 4294967295 (omega arith))
+longest-span = (ends-of-the-quickest 0 (omega arith) 4294967295, ends-of-the-quickest 1 (omega arith) 4294967295)

@@ -1,57 +1,18 @@
--- 01's proved examples, one list: each is a test on the definitions.
+-- 01's proved examples, one list: each is a test on the definitions, from the bytes of an instruction, a step or a span of a machine to
+-- what is left.
 use Prim.Native.Nat.{ℕ}
 use mathlib.Core.Bool.{Bool, true, false, _&&_}
 use mathlib.Core.List.{List, [], _∷_, _++_}
 use lib.Dec.{eqb}
 use lib.ListN.{replicate}
-use Rattle.alu.specs.declared.Outcome.{Outcome}
-use Rattle.alu.specs.declared.Adjusted.{Adjusted}
-use Rattle.alu.specs.declared.Adjusted.the-variants.{By, NoRow}
-use Rattle.alu.specs.FlagByte.{laid}
-use Rattle.alu.specs.Arithmetic.{addOf, subOf, incOf, decwOf}
-use Rattle.alu.specs.Logical.{andOf}
-use Rattle.alu.specs.Rotate.{rlOf, sraOf}
-use Rattle.alu.specs.Decimal.{daOf}
-use Rattle.timers.specs.Control.{settingOf, kept}
-use Rattle.timers.specs.Clock.{written, cycles}
-use Rattle.timers.specs.declared.Control.{Control}
-use Rattle.timers.specs.declared.Counting.{Counting}
-use Rattle.timers.specs.declared.Moving.{Moving}
-use Rattle.machine.specs.Names.{IPR, IRQ, IMR}
-use Rattle.machine.specs.State.{held, placed, withPc}
+use Rattle.machine.specs.Names.{TMR, T0, PRE0, IPR, IRQ, IMR, FLAGS}
+use Rattle.machine.specs.State.{whole, coreOf, held, placed, withPc}
+use Rattle.machine.specs.Clock.{countingAt, writeTmr, spanOf}
 use Rattle.machine.specs.Start.{defaultOf, fullTimer}
 use Rattle.machine.specs.declared.Machine.{Machine}
 use Rattle.machine.specs.declared.Pins.{Pins}
 use Rattle.execute.specs.Execute.{Execution, executeOf}
 use Rattle.step.specs.Step.{Progress, stepOf}
-
--- the outcome stores this value, and makes of the FLAGS byte f this FLAGS byte
-abbrev pub after : Outcome → ℕ → ℕ → ℕ → Bool
-after o f value flags = eqb (o .value) value && eqb (laid f (o .flags)) flags
-
--- the same of DA, which has a row for it
-abbrev pub adjusts : Adjusted → ℕ → ℕ → ℕ → Bool
-adjusts (By o) f value flags = after o f value flags
-adjusts NoRow f value flags = false
-
--- a timer as after a reset, and both of them at a divider
-abbrev pub resting : Counting
-resting = record { timer = fullTimer; enabled = false }
-
-abbrev pub restingAt : ℕ → Moving
-restingAt divider = record { divider = divider; t0 = resting; t1 = resting; lines = record { irq = 0; tout = true } }
-
--- these bytes in TMR, PRE0 and T0
-abbrev pub registers : ℕ → ℕ → ℕ → Control
-registers tmr pre0 t0 = record { tmr = tmr; t1 = 0; pre1 = 0; t0 = t0; pre0 = pre0; port3 = 0xFF }
-
--- a fresh load: 03 written to TMR loads T0 and enables it
-abbrev pub freshLoad : ℕ → ℕ → ℕ → Moving
-freshLoad divider pre0 t0 = written (registers 0x03 pre0 t0) (restingAt divider)
-
--- T0's ends in n cycles after that
-abbrev pub endsIn : ℕ → ℕ → ℕ → ℕ → ℕ
-endsIn divider pre0 t0 n = cycles (settingOf (registers (kept 0x03) pre0 t0)) n (freshLoad divider pre0 t0) .ends0
 
 -- a new machine at a program counter, with v in R5; RP is 0, so R5 is working register 5
 abbrev pub machineAt : ℕ → ℕ → Machine
@@ -63,6 +24,13 @@ pins = record { port0 = 0xFF; port1 = 0xFF; port2 = 0xFF; port3 = 0xFF }
 -- its instruction, of a program with no data memory
 abbrev pub executed : List ℕ → Machine → Execution
 executed image m = executeOf pins image [] m
+
+-- these bytes at 0000, on v in R5 and f in FLAGS: R4, R5 and FLAGS after them
+abbrev pub after : List ℕ → ℕ → ℕ → Machine
+after bytes v f = executed bytes (placed (machineAt 0x0000 v) FLAGS f) .machine
+
+abbrev pub leaves : Machine → ℕ → ℕ → Bool
+leaves m value flags = eqb (held m 0x05) value && eqb (held m FLAGS) flags
 
 -- DJNZ R5 on v, with a displacement of 10 (hexadecimal), leaves this in R5 and costs so much
 abbrev pub djnz : ℕ → ℕ → ℕ → Bool
@@ -77,31 +45,43 @@ requesting ipr imr irq = placed (placed (placed defaultOf IPR ipr) IMR imr) IRQ 
 abbrev pub stepped : Machine → Progress
 stepped m = stepOf pins (replicate 10 0xFF ++ (0x12 ∷ 0x34 ∷ replicate 4 0xFF)) [] m
 
+-- a new machine at a divider, with these bytes in PRE0 and T0, and a fresh load: 03 written to TMR loads T0 and enables it
+abbrev pub dividerAt : ℕ → Machine
+dividerAt divider = whole (defaultOf .regs) (countingAt (coreOf defaultOf) divider fullTimer fullTimer true)
+
+abbrev pub freshLoad : ℕ → ℕ → ℕ → Machine
+freshLoad divider pre0 t0 = writeTmr (placed (placed (dividerAt divider) PRE0 pre0) T0 t0) 0x03
+
+-- T0's ends in n of its cycles
+unfoldable pub endsIn : ℕ → ℕ → ℕ → ℕ → ℕ
+endsIn divider pre0 t0 n = spanOf n (freshLoad divider pre0 t0) .ends0
+
 -- every test holds
 abbrev pub all : List Bool → Bool
 all [] = true
 all (b ∷ bs) = b && all bs
 
--- Of the FLAGS byte before (the second argument of `after` and `adjusts`), each flag that the page affects is the opposite of what it
--- becomes, but for C before DA, which 01 gives. PRE0 0D is P 3, repeating; 01 is P 64, repeating; T0 00 is N 256.
+-- Of the FLAGS byte before (the third argument of `after`), each flag that the page affects is the opposite of what it becomes, but for C
+-- before DA, which 01 gives. PRE0 0D is P 3, repeating; 01 is P 64, repeating; T0 00 is N 256.
 unfoldable pub examples : List Bool
 examples =
-    -- 44 + 11 = 55, flags C Z S V D H clear
-    after (addOf 0x44 0x11) 0xFC 0x55 0x00
-    -- 7B AND C3 = 43
-    ∷ after (andOf 0x7B 0xC3) 0x70 0x43 0x00
-    -- 00 - 01 = FF with C, S, D, H set and Z, V clear
-    ∷ after (subOf 0x00 0x01) 0x50 0xFF 0xAC
-    -- INC 7F = 80 with S, V set
-    ∷ after (incOf 0x7F) 0x40 0x80 0x30
-    -- SRA 81 = C0 with C, S set
-    ∷ after (sraOf 0x81) 0x50 0xC0 0xA0
-    -- RL 40 = 80 with S, V set and C clear
-    ∷ after (rlOf 0x40) 0xC0 0x80 0x30
-    -- DA of 3C (C, D, H clear) = 42
-    ∷ adjusts (daOf 0x3C 0x60) 0x60 0x42 0x00
-    -- DECW 0000 = FFFF
-    ∷ eqb (decwOf 0x0000 .value) 0xFFFF
+    -- 44 + 11 = 55, flags C Z S V D H clear: ADD R5,#%11
+    leaves (after (0x06 ∷ 0x05 ∷ 0x11 ∷ []) 0x44 0xFC) 0x55 0x00
+    -- 7B AND C3 = 43: AND R5,#%C3
+    ∷ leaves (after (0x56 ∷ 0x05 ∷ 0xC3 ∷ []) 0x7B 0x70) 0x43 0x00
+    -- 00 - 01 = FF with C, S, D, H set and Z, V clear: SUB R5,#%01
+    ∷ leaves (after (0x26 ∷ 0x05 ∷ 0x01 ∷ []) 0x00 0x50) 0xFF 0xAC
+    -- INC 7F = 80 with S, V set: INC R5
+    ∷ leaves (after (0x5E ∷ []) 0x7F 0x40) 0x80 0x30
+    -- SRA 81 = C0 with C, S set: SRA R5
+    ∷ leaves (after (0xD0 ∷ 0x05 ∷ []) 0x81 0x50) 0xC0 0xA0
+    -- RL 40 = 80 with S, V set and C clear: RL R5
+    ∷ leaves (after (0x90 ∷ 0x05 ∷ []) 0x40 0xC0) 0x80 0x30
+    -- DA of 3C (C, D, H clear) = 42: DA R5
+    ∷ leaves (after (0x40 ∷ 0x05 ∷ []) 0x3C 0x60) 0x42 0x00
+    -- DECW 0000 = FFFF: DECW RR4
+    ∷ leaves (after (0x80 ∷ 0x04 ∷ []) 0x00 0x50) 0xFF 0x20
+    ∷ eqb (held (after (0x80 ∷ 0x04 ∷ []) 0x00 0x50) 0x04) 0xFF
     -- DJNZ on 1 leaves 0, 10 cycles; on 0 leaves FF, 12 cycles
     ∷ djnz 1 0x00 10
     ∷ djnz 0 0xFF 12

@@ -6,11 +6,16 @@ use Prim.Native.Nat.{ℕ, _<_}
 use lib.Dec.{eqb, ltb}
 use lib.ListN.{length}
 use borrow.Author.Tests.{eqb-false, lt-ltb}
+use Rattle.numbers.specs.Numbers.{version, refusedImage, imageMost}
 use Rattle.word.specs.Choose.{pick}
 use Rattle.word.proofs.Computed.{by-test}
+use Rattle.opcodes.specs.declared.Decoded.{Decoded}
+use Rattle.opcodes.specs.declared.Decoded.the-variants as decoded
+use Rattle.opcodes.specs.declared.Encoded.{Encoded}
+use Rattle.opcodes.specs.declared.Encoded.the-variants as encoded
 use Rattle.machine.specs.Clock.{spanOf}
 use Rattle.machine.specs.Legal.{Legal}
-use Rattle.machine.specs.Start.{madeOf, resetOf}
+use Rattle.machine.specs.Start.{madeOf, defaultOf, resetOf}
 use Rattle.machine.specs.declared.Machine.{Machine}
 use Rattle.machine.specs.declared.Pins.{Pins}
 use Rattle.machine.proofs.Legal.{LegalPins, made-legal, default-legal, reset-legal, span-legal}
@@ -20,7 +25,7 @@ use Rattle.saved.proofs.RoundTrip.{bytes-and-back, machine-and-back}
 use Rattle.step.specs.Step.{Progress, stepOf}
 use Rattle.step.specs.Run.{budgetRefusal, runOf}
 use Rattle.step.proofs.Theorems.{step-legal, run-legal}
-use Rattle.z8.specs.Calls.{Answer, Lent, LentSpan, Four, answer, lentSpan, imageRefusal, memoryRefusal, unlessRefused, leftBy, makeOf, makeDefaultOf, resetCallOf, decodeCallOf, encodeCallOf, stepCallOf, runCallOf, spanCallOf}
+use Rattle.z8.specs.Calls.{Answer, Lent, LentSpan, Four, answer, lentSpan, imageRefusal, memoryRefusal, unlessRefused, decodedInto, encodedInto, leftBy, makeOf, makeDefaultOf, resetCallOf, decodeCallOf, encodeCallOf, stepCallOf, runCallOf, spanCallOf}
 use Rattle.z8.proofs.Refusals.{is-refused, is-done}
 
 -- ---- "Show that any two results allowed are equal": a contract is `answer n left ≡ x`, x made of all that was given.
@@ -35,6 +40,9 @@ make-decided kind cost saved = one-answer (makeOf kind cost saved)
 
 pub make-default-decided : (saved : List ℕ) → Decided (makeDefaultOf saved)
 make-default-decided saved = one-answer (makeDefaultOf saved)
+
+pub version-decided : (n n' : ℕ) → n ≡ version → n' ≡ version → n ≡ n'
+version-decided n n' p q = p ∙ sym q
 
 pub check-decided : (saved : List ℕ) (n n' : ℕ) → n ≡ refusalOf saved → n' ≡ refusalOf saved → n ≡ n'
 check-decided saved n n' p q = p ∙ sym q
@@ -58,15 +66,15 @@ pub span-decided : (n : ℕ) (given : LentSpan) → Decided (spanCallOf n given)
 span-decided n given = one-answer (spanCallOf n given)
 
 -- ---- "tested in the order 7, 6, 1, 2 [..]": of a legal machine, an image too long is 1, whatever the data memory's length.
-module _ (p : Pins) (image : List ℕ) (given : Lent) (legal : refusalOf (given .saved) ≡ 0) (long : 65536 < length image) where
-  over : ltb 65536 (length image) ≡ true
-  over = lt-ltb 65536 (length image) long
+module _ (p : Pins) (image : List ℕ) (given : Lent) (legal : refusalOf (given .saved) ≡ 0) (long : imageMost < length image) where
+  over : ltb imageMost (length image) ≡ true
+  over = lt-ltb imageMost (length image) long
 
-  pub step-image-first : stepCallOf p image given ≡ answer 1 given
+  pub step-image-first : stepCallOf p image given ≡ answer refusedImage given
   unfolding stepCallOf
   step-image-first = rw (legal, over)
 
-  pub run-image-first : (budget : ℕ) → runCallOf p image budget given ≡ answer 1 given
+  pub run-image-first : (budget : ℕ) → runCallOf p image budget given ≡ answer refusedImage given
   unfolding runCallOf
   run-image-first budget = rw (legal, over)
 
@@ -77,6 +85,10 @@ untouched {A} f given done = by-test (λ (a : Answer A). (a .number ≡ 0 → �
 pub make-untouched : (kind cost : ℕ) (saved : List ℕ) → (makeOf kind cost saved .number ≡ 0 → ⊥) → makeOf kind cost saved .left ≡ saved
 unfolding makeOf
 make-untouched kind cost saved = untouched (firstOf (lengthRefusal saved ∷ madeOf kind cost .refusal ∷ [])) saved (savedOf (madeOf kind cost .machine))
+
+pub make-default-untouched : (saved : List ℕ) → (makeDefaultOf saved .number ≡ 0 → ⊥) → makeDefaultOf saved .left ≡ saved
+unfolding makeDefaultOf
+make-default-untouched saved = untouched (lengthRefusal saved) saved (savedOf defaultOf)
 
 pub reset-untouched : (saved : List ℕ) → (resetCallOf saved .number ≡ 0 → ⊥) → resetCallOf saved .left ≡ saved
 unfolding resetCallOf
@@ -93,6 +105,26 @@ unfolding spanCallOf
 span-untouched n given =
     let r = spanOf n (machineOf (given .saved)) in
     untouched (refusalOf (given .saved)) given (lentSpan (savedOf (r .machine)) (r .ends0) (r .ends1))
+
+-- decoding and encoding: an instruction is answered with 0, and else the four numbers stay
+decoded-untouched : (given : Four) (d : Decoded) → (decodedInto given d .number ≡ 0 → ⊥) → decodedInto given d .left ≡ given
+decoded-untouched given (decoded.Instruction op first second size) refused = absurd (refused refl)
+decoded-untouched given (decoded.Refused n) refused = refl
+
+pub decode-untouched : (image : List ℕ) (at : ℕ) (given : Four) → (decodeCallOf image at given .number ≡ 0 → ⊥) → decodeCallOf image at given .left ≡ given
+unfolding decodeCallOf
+decode-untouched image at given =
+    by-test (λ (a : Answer Four). (a .number ≡ 0 → ⊥) → a .left ≡ given) (eqb (imageRefusal image) 0)
+    (λ t. decoded-untouched given _)
+    (λ t refused. refl)
+
+encoded-untouched : (given : Four) (e : Encoded) → (encodedInto given e .number ≡ 0 → ⊥) → encodedInto given e .left ≡ given
+encoded-untouched given (encoded.Bytes size b0 b1 b2) refused = absurd (refused refl)
+encoded-untouched given (encoded.Refused n) refused = refl
+
+pub encode-untouched : (op first second : ℕ) (given : Four) → (encodeCallOf op first second given .number ≡ 0 → ⊥) → encodeCallOf op first second given .left ≡ given
+unfolding encodeCallOf
+encode-untouched op first second given = encoded-untouched given _
 
 -- a run refused for what it was lent, by 7, 6, 1, 2 or 4
 pub run-untouched : (p : Pins) (image : List ℕ) (budget : ℕ) (given : Lent) (n : ℕ)

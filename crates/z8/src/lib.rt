@@ -5,12 +5,21 @@ use machine::Pins;
 use opcodes::Decoded;
 use opcodes::Encoded;
 ghost use mathlib.Core.Path.{_≡_};
+ghost use Rattle.numbers.specs.Numbers.{version};
 ghost use Rattle.saved.specs.Saved.{refusalOf};
 ghost use Rattle.z8.specs.Calls.{answer, lent, lentSpan, four, pinsGiven, makeOf, makeDefaultOf, resetCallOf, decodeCallOf, encodeCallOf, stepCallOf, runCallOf, spanCallOf};
 ghost use Rattle.z8.specs.ForCode.{admittedOf};
 
 // Nothing is refused.
 const DONE: u32 = numbers::DONE as u32;
+
+// Which version of the library is linked.
+#[no_mangle]
+pub extern "C" fn z8_version() -> u32
+    ensures { λ r. ⌜ r ≡ version ⌝ }
+{
+    65536 * numbers::VERSION_MAJOR + 256 * numbers::VERSION_MINOR + numbers::VERSION_PATCH
+}
 
 // A new machine of that type and entry cost: 7, 3.
 #[no_mangle]
