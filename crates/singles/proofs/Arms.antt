@@ -27,58 +27,62 @@ use Rattle.machine.specs.declared.Bytes.the-variants as bytes
 use Rattle.machine.specs.declared.Stores.the-variants as stores
 use Rattle.lent.specs.View.{Left, stacked}
 use Rattle.deeds.specs.Modes.{upperAt, lowerAt, operandsOf, fromRegister, targetOf}
-use Rattle.deeds.specs.Pages.{deedOf, outcomeOf, ldDeed, ldeDeed, ldeiDeed, ldcDeed, ldciDeed, callDeed, dataMove, programMove, pointedAt}
+use Rattle.deeds.specs.Pages.{deedOf, outcomeOf, ldDeed, ldeDeed, ldeiDeed, ldcDeed, ldciDeed, callDeed, dataMove, programMove}
 use Rattle.deeds.specs.declared.Code.{Code}
 use Rattle.execute.specs.Doing.{doneOf, transferred, blockMoved, countedUp, pairCountedUp, called}
 use Rattle.execute.specs.ForCode.{Performed, performed, instructionAt}
 use Rattle.operands.proofs.Arms.{Is, at-opcode, doing, done-is, kind-is, from-elsewhere}
 use Rattle.singles.specs.ForCode.{singleRow, Single}
 
-module _ (p : Pins) (image mem : List ℕ) {n : Machine} {pc : ℕ} {i : Code} (m : Single n pc i) where
+-- what is known before the match: what was asked for, the register r and the pair rr that the nibbles of the second byte name, and where the pair points
+pub record Ready (p : Pins) (n : Machine) (pc : ℕ) (i : Code) (r rr a : ℕ) : Type 0 where
+  pub asked : Single n pc i
+  pub register : r ≡ upperAt n (i .first)
+  pub pair : rr ≡ lowerAt n (i .first)
+  pub pointed : a ≡ readPair p n rr
+
+module _ {p : Pins} (image mem : List ℕ) {n : Machine} {pc : ℕ} {i : Code} {r rr a : ℕ} (m : Ready p n pc i r rr a) where
   opcode-is : (c : ℕ) (k : Kind) → i .op ≡ c → Is c k → doing p image mem n pc i k ≡ instructionAt p image mem n pc i
-  opcode-is c k h e = kind-is p image mem n pc i k (m .next) (at-opcode (i .op) c k h e)
+  opcode-is c k h e = kind-is p image mem n pc i k (m .asked .next) (at-opcode (i .op) c k h e)
 
-  -- the register and the pair that the nibbles of the second byte name; one added to both
-  abbrev reg : ℕ
-  reg = upperAt n (i .first)
-
+  -- one added to the register and to the pair
   abbrev counted : Machine → Machine
-  counted x = pairCountedUp p (countedUp p x reg) (lowerAt n (i .first))
+  counted x = pairCountedUp p (countedUp p x r) rr
 
   -- a byte stored in data memory, to where the pair points
   abbrev memoryWith : ℕ → List ℕ
-  memoryWith v = storedIn (n .kind) mem (stores.At (pointedAt p n i) (bytes.One v))
+  memoryWith v = storedIn (n .kind) mem (stores.At a (bytes.One v))
 
   abbrev This : Performed → Type 0
   This x = x ≡ instructionAt p image mem n pc i
 
-  pub lde-in : i .op ≡ 0x82 → This (performed (writeReg n reg (dataByte (n .kind) mem (pointedAt p n i))) mem 12)
+  pub lde-in : i .op ≡ 0x82 → This (performed (writeReg n r (dataByte (n .kind) mem a)) mem 12)
   unfolding entryOf opcodeMap lengthOf deedOf outcomeOf doneOf ldeDeed dataMove transferred storedIn
-  lde-in h = opcode-is 0x82 (Lde In) h refl
+  lde-in h = rw (m .pointed, m .pair, m .register) (opcode-is 0x82 (Lde In) h refl)
 
-  pub ldei-in : i .op ≡ 0x83 → This (performed (counted (writeReg n (readReg p n reg) (dataByte (n .kind) mem (pointedAt p n i)))) mem 18)
+  pub ldei-in : i .op ≡ 0x83 → This (performed (counted (writeReg n (readReg p n r) (dataByte (n .kind) mem a))) mem 18)
   unfolding entryOf opcodeMap lengthOf deedOf outcomeOf doneOf ldeiDeed dataMove blockMoved transferred storedIn workingIndirectAt
-  ldei-in h = opcode-is 0x83 (Ldei In) h refl
+  ldei-in h = rw (m .pointed, m .pair, m .register) (opcode-is 0x83 (Ldei In) h refl)
 
-  pub lde-out : i .op ≡ 0x92 → This (performed n (memoryWith (readReg p n reg)) 12)
+  pub lde-out : i .op ≡ 0x92 → This (performed n (memoryWith (readReg p n r)) 12)
   unfolding entryOf opcodeMap lengthOf deedOf outcomeOf doneOf ldeDeed dataMove transferred
-  lde-out h = opcode-is 0x92 (Lde Out) h refl
+  lde-out h = rw (m .pointed, m .pair, m .register) (opcode-is 0x92 (Lde Out) h refl)
 
-  pub ldei-out : i .op ≡ 0x93 → This (performed (counted n) (memoryWith (readReg p n (readReg p n reg))) 18)
+  pub ldei-out : i .op ≡ 0x93 → This (performed (counted n) (memoryWith (readReg p n (readReg p n r))) 18)
   unfolding entryOf opcodeMap lengthOf deedOf outcomeOf doneOf ldeiDeed dataMove blockMoved transferred workingIndirectAt
-  ldei-out h = opcode-is 0x93 (Ldei Out) h refl
+  ldei-out h = rw (m .pointed, m .pair, m .register) (opcode-is 0x93 (Ldei Out) h refl)
 
-  pub ldc-in : i .op ≡ 0xC2 → This (performed (writeReg n reg (programByte image (pointedAt p n i))) mem 12)
+  pub ldc-in : i .op ≡ 0xC2 → This (performed (writeReg n r (programByte image a)) mem 12)
   unfolding entryOf opcodeMap lengthOf deedOf outcomeOf doneOf ldcDeed programMove transferred storedIn
-  ldc-in h = opcode-is 0xC2 (Ldc In) h refl
+  ldc-in h = rw (m .pointed, m .pair, m .register) (opcode-is 0xC2 (Ldc In) h refl)
 
-  pub ldci-in : i .op ≡ 0xC3 → This (performed (counted (writeReg n (readReg p n reg) (programByte image (pointedAt p n i)))) mem 18)
+  pub ldci-in : i .op ≡ 0xC3 → This (performed (counted (writeReg n (readReg p n r) (programByte image a))) mem 18)
   unfolding entryOf opcodeMap lengthOf deedOf outcomeOf doneOf ldciDeed programMove blockMoved transferred storedIn workingIndirectAt
-  ldci-in h = opcode-is 0xC3 (Ldci In) h refl
+  ldci-in h = rw (m .pointed, m .pair, m .register) (opcode-is 0xC3 (Ldci In) h refl)
 
-  pub ld-from-index : i .op ≡ 0xC7 → This (performed (writeReg n reg (readReg p n (indexedAt p n (i .second) (lower (i .first))))) mem 10)
+  pub ld-from-index : i .op ≡ 0xC7 → This (performed (writeReg n r (readReg p n (indexedAt p n (i .second) (lower (i .first))))) mem 10)
   unfolding entryOf opcodeMap lengthOf deedOf outcomeOf doneOf ldDeed operandsOf fromRegister transferred storedIn
-  ld-from-index h = opcode-is 0xC7 (Ld WorkIndexed) h refl
+  ld-from-index h = rw (m .register) (opcode-is 0xC7 (Ld WorkIndexed) h refl)
 
   pub ldc-out : i .op ≡ 0xD2 → This (performed n mem 12)
   unfolding entryOf opcodeMap lengthOf deedOf outcomeOf doneOf ldcDeed programMove transferred storedIn
@@ -86,15 +90,15 @@ module _ (p : Pins) (image mem : List ℕ) {n : Machine} {pc : ℕ} {i : Code} (
 
   pub ldci-out : i .op ≡ 0xD3 → This (performed (counted n) mem 18)
   unfolding entryOf opcodeMap lengthOf deedOf outcomeOf doneOf ldciDeed programMove blockMoved transferred storedIn
-  ldci-out h = opcode-is 0xD3 (Ldci Out) h refl
+  ldci-out h = rw (m .pair, m .register) (opcode-is 0xD3 (Ldci Out) h refl)
 
-  pub ld-to-index : i .op ≡ 0xD7 → This (performed (writeReg n (indexedAt p n (i .second) (lower (i .first))) (readReg p n reg)) mem 10)
+  pub ld-to-index : i .op ≡ 0xD7 → This (performed (writeReg n (indexedAt p n (i .second) (lower (i .first))) (readReg p n r)) mem 10)
   unfolding entryOf opcodeMap lengthOf deedOf outcomeOf doneOf ldDeed operandsOf fromRegister transferred storedIn
-  ld-to-index h = opcode-is 0xD7 (Ld IndexedWork) h refl
+  ld-to-index h = rw (m .register) (opcode-is 0xD7 (Ld IndexedWork) h refl)
 
-  pub ld-ind-work : i .op ≡ 0xF3 → This (performed (writeReg n (readReg p n reg) (readReg p n (lowerAt n (i .first)))) mem 6)
+  pub ld-ind-work : i .op ≡ 0xF3 → This (performed (writeReg n (readReg p n r) (readReg p n rr)) mem 6)
   unfolding entryOf opcodeMap lengthOf deedOf outcomeOf doneOf ldDeed operandsOf fromRegister transferred storedIn workingIndirectAt
-  ld-ind-work h = opcode-is 0xF3 (Ld IndWork) h refl
+  ld-ind-work h = rw (m .pair, m .register) (opcode-is 0xF3 (Ld IndWork) h refl)
 
   pub ld-ind-reg : i .op ≡ 0xF5 → This (performed (writeReg n (indirectAt p n (i .second)) (readReg p n (registerAt n (i .first)))) mem 10)
   unfolding entryOf opcodeMap lengthOf deedOf outcomeOf doneOf ldDeed operandsOf fromRegister transferred storedIn

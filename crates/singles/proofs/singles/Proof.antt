@@ -2,9 +2,29 @@ use borrow.Author.Needs.{needs}
 use Rattle.singles.proofs.singles.Statement.{statement}
 use Rattle.singles.proofs.singles.Tie as tie
 use Prim.Native.Nat.{_<_}
+use denote.Ref.{now}
 use Rattle.opcodes.specs.Map.{entryOf, opcodeMap}
+use Rattle.machine.specs.declared.Machine.{Machine}
+use Rattle.lent.specs.View.{machineIn}
 use Rattle.operands.proofs.Arms.{blank-is-refused}
-use Rattle.singles.proofs.Arms.{lde-in, ldei-in, lde-out, ldei-out, ldc-in, ldci-in, ld-from-index, ldc-out, ldci-out, ld-to-index, ld-ind-work, ld-ind-reg, call-direct-arm, call-pair-arm, single-blank}
+use Rattle.singles.proofs.Arms.{Ready, lde-in, ldei-in, lde-out, ldei-out, ldc-in, ldci-in, ld-from-index, ldc-out, ldci-out, ld-to-index, ld-ind-work, ld-ind-reg, call-direct-arm, call-pair-arm, single-blank}
+
+-- before the match: the start, and what the three reads gave
+module _ (s : tie.After-read-pair) where
+  abbrev pair : tie.After-working2
+  pair = s .before .before .before
+
+  abbrev register : tie.After-working
+  register = pair .before .before .before .before
+
+  abbrev start : tie.Start
+  start = register .before .before .before .before .before .before
+
+  abbrev given : Machine
+  given = machineIn (now (start .args .regs)) (now (start .args .rest))
+
+  ready : Ready (start .args .pins) given (start .args .pc) (start .args .i) (register .working .result) (pair .working2 .result) (s .read-pair .result)
+  ready = record { asked = start .pre; register = register .working .ensures; pair = pair .working2 .ensures; pointed = s .read-pair .ensures }
 
 op-below : (s : tie.Start) → s .args .i .op < 256
 op-below s = search needs
@@ -136,65 +156,125 @@ same-length : tie.Need-same-length
 same-length c = search needs
 
 returns : tie.Need-returns
-returns c = rw (c .write .ensures, c .before .before .before .load .ensures, c .before .before .before .before .before .before .before .read-pair .ensures, c .before .before .before .before .before .before .before .before .before .before .working2 .ensures, c .before .before .before .before .before .before .before .before .before .before .before .before .before .before .working .ensures) (lde-in _ _ _ (c .before .before .before .before .before .before .before .before .before .before .before .before .before .before .before .before .before .before .before .before .pre) (c .before .before .before .before .before .before .match .keys1))
+returns c =
+    let loaded : tie.After-load = c .before .before .before in
+    let arm : tie.At-match-keys1 = loaded .before .before .before in
+    rw (c .write .ensures, loaded .load .ensures) (lde-in _ _ (ready (arm .before)) (arm .match .keys1))
 
 same-length-2 : tie.Need-same-length-2
 same-length-2 c = search needs
 
 returns-2 : tie.Need-returns-2
-returns-2 c = rw (c .block .ensures, c .before .before .before .load2 .ensures, c .before .before .before .before .before .before .read .ensures, c .before .before .before .before .before .before .before .before .before .before .read-pair .ensures, c .before .before .before .before .before .before .before .before .before .before .before .before .before .working2 .ensures, c .before .before .before .before .before .before .before .before .before .before .before .before .before .before .before .before .before .working .ensures) (ldei-in _ _ _ (c .before .before .before .before .before .before .before .before .before .before .before .before .before .before .before .before .before .before .before .before .before .before .before .pre) (c .before .before .before .before .before .before .before .before .before .match .keys2))
+returns-2 c =
+    let loaded : tie.After-load2 = c .before .before .before in
+    let to : tie.After-read = loaded .before .before .before in
+    let arm : tie.At-match-keys2 = to .before .before .before in
+    rw (c .block .ensures, loaded .load2 .ensures, to .read .ensures) (ldei-in _ _ (ready (arm .before)) (arm .match .keys2))
 
 same-length-3 : tie.Need-same-length-3
 same-length-3 c = search needs
 
 returns-3 : tie.Need-returns-3
-returns-3 c = rw (c .before .before .store .ensures, c .before .before .before .before .before .read2 .ensures, c .before .before .before .before .before .before .before .before .before .read-pair .ensures, c .before .before .before .before .before .before .before .before .before .before .before .before .working2 .ensures, c .before .before .before .before .before .before .before .before .before .before .before .before .before .before .before .before .working .ensures) (lde-out _ _ _ (c .before .before .before .before .before .before .before .before .before .before .before .before .before .before .before .before .before .before .before .before .before .before .pre) (c .before .before .before .before .before .before .before .before .match .keys3))
+returns-3 c =
+    let stored : tie.After-store = c .before .before in
+    let from : tie.After-read2 = stored .before .before .before in
+    let arm : tie.At-match-keys3 = from .before .before .before in
+    rw (stored .store .ensures, from .read2 .ensures) (lde-out _ _ (ready (arm .before)) (arm .match .keys3))
 
 same-length-4 : tie.Need-same-length-4
 same-length-4 c = search needs
 
 returns-4 : tie.Need-returns-4
-returns-4 c = rw (c .count-up .ensures, c .before .before .before .before .before .store2 .ensures, c .before .before .before .before .before .before .before .before .read4 .ensures, c .before .before .before .before .before .before .before .before .before .before .before .read3 .ensures, c .before .before .before .before .before .before .before .before .before .before .before .before .before .before .before .read-pair .ensures, c .before .before .before .before .before .before .before .before .before .before .before .before .before .before .before .before .before .before .working2 .ensures, c .before .before .before .before .before .before .before .before .before .before .before .before .before .before .before .before .before .before .before .before .before .before .working .ensures) (ldei-out _ _ _ (c .before .before .before .before .before .before .before .before .before .before .before .before .before .before .before .before .before .before .before .before .before .before .before .before .before .before .before .before .pre) (c .before .before .before .before .before .before .before .before .before .before .before .before .before .before .match .keys4))
+returns-4 c =
+    let stored : tie.After-store2 = c .before .before .before .before .before in
+    let value : tie.After-read4 = stored .before .before .before in
+    let from : tie.After-read3 = value .before .before .before in
+    let arm : tie.At-match-keys4 = from .before .before .before in
+    rw (c .count-up .ensures, stored .store2 .ensures, value .read4 .ensures, from .read3 .ensures) (ldei-out _ _ (ready (arm .before)) (arm .match .keys4))
 
 returns-5 : tie.Need-returns-5
-returns-5 c = rw (c .write2 .ensures, c .before .before .before .program .ensures, c .before .before .before .before .before .read-pair .ensures, c .before .before .before .before .before .before .before .before .working2 .ensures, c .before .before .before .before .before .before .before .before .before .before .before .before .working .ensures) (ldc-in _ _ _ (c .before .before .before .before .before .before .before .before .before .before .before .before .before .before .before .before .before .before .pre) (c .before .before .before .before .match .keys5))
+returns-5 c =
+    let fetched : tie.After-program = c .before .before .before in
+    let arm : tie.At-match-keys5 = fetched .before in
+    rw (c .write2 .ensures, fetched .program .ensures) (ldc-in _ _ (ready (arm .before)) (arm .match .keys5))
 
 returns-6 : tie.Need-returns-6
-returns-6 c = rw (c .block2 .ensures, c .before .before .before .program2 .ensures, c .before .before .before .before .read5 .ensures, c .before .before .before .before .before .before .before .before .read-pair .ensures, c .before .before .before .before .before .before .before .before .before .before .before .working2 .ensures, c .before .before .before .before .before .before .before .before .before .before .before .before .before .before .before .working .ensures) (ldci-in _ _ _ (c .before .before .before .before .before .before .before .before .before .before .before .before .before .before .before .before .before .before .before .before .before .pre) (c .before .before .before .before .before .before .before .match .keys6))
+returns-6 c =
+    let fetched : tie.After-program2 = c .before .before .before in
+    let to : tie.After-read5 = fetched .before in
+    let arm : tie.At-match-keys6 = to .before .before .before in
+    rw (c .block2 .ensures, fetched .program2 .ensures, to .read5 .ensures) (ldci-in _ _ (ready (arm .before)) (arm .match .keys6))
 
 returns-7 : tie.Need-returns-7
-returns-7 c = rw (c .write3 .ensures, c .before .before .before .read6 .ensures, c .before .before .before .before .before .before .indexed .ensures, c .before .before .before .before .before .before .before .before .before .before .before .before .before .before .before .before .before .before .working .ensures) (ld-from-index _ _ _ (c .before .before .before .before .before .before .before .before .before .before .before .before .before .before .before .before .before .before .before .before .before .before .before .before .pre) (c .before .before .before .before .before .before .before .before .before .before .match .keys7))
+returns-7 c =
+    let value : tie.After-read6 = c .before .before .before in
+    let from : tie.After-indexed = value .before .before .before in
+    let arm : tie.At-match-keys7 = from .before .before .before .before in
+    rw (c .write3 .ensures, value .read6 .ensures, from .indexed .ensures) (ld-from-index _ _ (ready (arm .before)) (arm .match .keys7))
 
 returns-8 : tie.Need-returns-8
-returns-8 c = ldc-out _ _ _ (c .before .before .before .before .before .before .before .before .before .before .before .before .before .before .pre) (c .match .keys8)
+returns-8 c =
+    ldc-out _ _ (ready (c .before)) (c .match .keys8)
 
 returns-9 : tie.Need-returns-9
-returns-9 c = rw (c .count-up2 .ensures, c .before .before .before .before .before .before .before .working2 .ensures, c .before .before .before .before .before .before .before .before .before .before .before .working .ensures) (ldci-out _ _ _ (c .before .before .before .before .before .before .before .before .before .before .before .before .before .before .before .before .before .pre) (c .before .before .before .match .keys9))
+returns-9 c =
+    let arm : tie.At-match-keys9 = c .before .before .before in
+    rw (c .count-up2 .ensures) (ldci-out _ _ (ready (arm .before)) (arm .match .keys9))
 
 same-length-5 : tie.Need-same-length-5
 same-length-5 c = search needs
 
 returns-10 : tie.Need-returns-10
-returns-10 c = call-pair-arm _ _ _ (c .before .before .before .before .before .before .before .before .before .before .before .before .before .before .before .before .before .before .before .before .before .before .before .before .before .before .before .before .before .before .pre) (c .before .before .before .before .before .before .before .before .before .before .before .before .before .before .before .before .match .keys10) _ _ (rw (c .before .before .before .before .before .before .before .before .before .before .before .before .before .before .before .plus .ensures) at (c .before .before .before .before .before .before .before .before .before .before .before .before .set-pc .ensures)) (rw (c .before .before .before .before .before .before .read-pair2 .ensures, c .before .before .before .before .before .before .before .before .before .register .ensures) at (c .before .before .call .ensures))
+returns-10 c =
+    let called : tie.After-call = c .before .before in
+    let to : tie.After-read-pair2 = called .before .before .before .before in
+    let address : tie.After-register = to .before .before .before in
+    let placed : tie.After-set-pc = address .before .before .before in
+    let next : tie.After-plus = placed .before .before .before in
+    let arm : tie.At-match-keys10 = next .before in
+    let moved-on = rw (next .plus .ensures) at (placed .set-pc .ensures) in
+    let left = rw (to .read-pair2 .ensures, address .register .ensures) at (called .call .ensures) in
+    call-pair-arm _ _ (ready (arm .before)) (arm .match .keys10) _ _ moved-on left
 
 same-length-6 : tie.Need-same-length-6
 same-length-6 c = search needs
 
 returns-11 : tie.Need-returns-11
-returns-11 c = call-direct-arm _ _ _ (c .before .before .before .before .before .before .before .before .before .before .before .before .before .before .before .before .before .before .before .before .before .pre) (c .before .before .before .before .before .before .before .match .keys11) _ (rw (c .before .before .before .before .before .before .word .ensures) at (c .before .before .call2 .ensures))
+returns-11 c =
+    let called : tie.After-call2 = c .before .before in
+    let to : tie.After-word = called .before .before .before .before in
+    let arm : tie.At-match-keys11 = to .before in
+    call-direct-arm _ _ (ready (arm .before)) (arm .match .keys11) _ (rw (to .word .ensures) at (called .call2 .ensures))
 
 returns-12 : tie.Need-returns-12
-returns-12 c = rw (c .write4 .ensures, c .before .before .before .read7 .ensures, c .before .before .before .before .before .before .indexed2 .ensures, c .before .before .before .before .before .before .before .before .before .before .before .before .before .before .before .before .before .before .working .ensures) (ld-to-index _ _ _ (c .before .before .before .before .before .before .before .before .before .before .before .before .before .before .before .before .before .before .before .before .before .before .before .before .pre) (c .before .before .before .before .before .before .before .before .before .before .match .keys12))
+returns-12 c =
+    let value : tie.After-read7 = c .before .before .before in
+    let to : tie.After-indexed2 = value .before .before .before in
+    let arm : tie.At-match-keys12 = to .before .before .before .before in
+    rw (c .write4 .ensures, value .read7 .ensures, to .indexed2 .ensures) (ld-to-index _ _ (ready (arm .before)) (arm .match .keys12))
 
 returns-13 : tie.Need-returns-13
-returns-13 c = rw (c .write5 .ensures, c .before .before .before .read9 .ensures, c .before .before .before .before .before .before .read8 .ensures, c .before .before .before .before .before .before .before .before .before .before .before .before .before .working2 .ensures, c .before .before .before .before .before .before .before .before .before .before .before .before .before .before .before .before .before .working .ensures) (ld-ind-work _ _ _ (c .before .before .before .before .before .before .before .before .before .before .before .before .before .before .before .before .before .before .before .before .before .before .before .pre) (c .before .before .before .before .before .before .before .before .before .match .keys13))
+returns-13 c =
+    let value : tie.After-read9 = c .before .before .before in
+    let to : tie.After-read8 = value .before .before .before in
+    let arm : tie.At-match-keys13 = to .before .before .before in
+    rw (c .write5 .ensures, value .read9 .ensures, to .read8 .ensures) (ld-ind-work _ _ (ready (arm .before)) (arm .match .keys13))
 
 returns-14 : tie.Need-returns-14
-returns-14 c = rw (c .write6 .ensures, c .before .before .before .indirect .ensures, c .before .before .before .before .before .before .read10 .ensures, c .before .before .before .before .before .before .before .before .before .register2 .ensures) (ld-ind-reg _ _ _ (c .before .before .before .before .before .before .before .before .before .before .before .before .before .before .before .before .before .before .before .before .before .before .before .before .before .before .pre) (c .before .before .before .before .before .before .before .before .before .before .before .before .match .keys14))
+returns-14 c =
+    let to : tie.After-indirect = c .before .before .before in
+    let value : tie.After-read10 = to .before .before .before in
+    let from : tie.After-register2 = value .before .before .before in
+    let arm : tie.At-match-keys14 = from .before .before .before in
+    rw (c .write6 .ensures, to .indirect .ensures, value .read10 .ensures, from .register2 .ensures) (ld-ind-reg _ _ (ready (arm .before)) (arm .match .keys14))
 
 returns-15 : tie.Need-returns-15
 unfolding entryOf opcodeMap
-returns-15 c = rw (c .refused .ensures .0, c .refused .ensures .1) (blank-is-refused _ _ _ _ _ _ (single-blank (c .before .before .before .before .before .before .before .before .before .before .before .before .before .before .before .before .before .args .i .op) (op-below (c .before .before .before .before .before .before .before .before .before .before .before .before .before .before .before .before .before)) (c .before .before .before .before .before .before .before .before .before .before .before .before .before .before .before .before .before .pre .low) (c .before .before .before .before .before .before .before .before .before .before .before .before .before .before .before .before .before .pre .high) (c .before .before .before .before .before .before .before .before .before .before .before .before .before .before .before .before .before .pre .row) (c .before .before .before .match .rest)))
+returns-15 c =
+    let blank : tie.At-match-rest = c .before .before .before in
+    let begun = start (blank .before) in
+    rw (c .refused .ensures .0, c .refused .ensures .1)
+    (blank-is-refused _ _ _ _ _ _ (single-blank (begun .args .i .op) (op-below begun) (begun .pre .low) (begun .pre .high) (begun .pre .row) (blank .match .rest)))
 
 pub singles-spec : {M : Type 1} → statement M
 singles-spec =
