@@ -43,6 +43,11 @@ pub at-next : {lo hi : ℕ} {p : Pins} {n : Machine} {pc : ℕ} {i : Code} {o : 
 unfolding withPc
 at-next m l h e f = record { low = l; high = h; next = ap (λ (m : Machine). m .pc) e; is = f }
 
+-- and of one column
+pub in-column : {p : Pins} {n : Machine} {pc : ℕ} {i : Code} {o : Operands} (k : ℕ) (m : Machine) → lower (i .op) ≡ k
+    → (o ≡ columnAt p n i) × (n ≡ withPc m (plus pc (columnLength (lower (i .op))))) → At k (k + 1) p n pc i o
+in-column k m l e = at-next m (omega arith) (omega arith) (e .1) (e .0)
+
 -- what it is at the next instruction, it is before
 pub elsewhere : (p : Pins) (image mem : List ℕ) (n m : Machine) (q pc : ℕ) (i : Code) (x : Performed) → n ≡ withPc m q
     → x ≡ instructionAt p image mem n pc i → x ≡ instructionAt p image mem m pc i

@@ -8,10 +8,9 @@ use Rattle.opcodes.specs.Map.{entryOf, opcodeMap}
 use Rattle.opcodes.specs.Instruction.{lengthOf}
 use Rattle.opcodes.specs.declared.Two.the-variants.{WorkReg, RegWork, WorkImm}
 use Rattle.deeds.specs.Results.{unaryOf}
-use Rattle.perform.proofs.Arms.{elsewhere, ld-column, inc-column}
+use Rattle.perform.proofs.Arms.{at-next, in-column, elsewhere, ld-column, inc-column}
 use Rattle.word.specs.Fields.{lower}
 use Rattle.word.proofs.Computed.{last}
-use Rattle.perform.proofs.Arms.{at-next}
 
 operands-requires : tie.Need-operands-requires
 operands-requires c κs = search needs
@@ -29,16 +28,25 @@ low-below : (s : tie.Start) → lower (s .args .i .op) < 16
 low-below s = search needs
 
 djnz-requires : tie.Need-djnz-requires
-djnz-requires c κs = at-next _ (omega (arith, c .before .before .before .match .keys3)) (omega (arith, c .before .before .before .match .keys3)) (c .before .before .before .before .before .operands .ensures .1) (c .before .before .before .before .before .operands .ensures .0)
+djnz-requires c κs =
+    let column : tie.At-match-keys3 = c .before .before .before in
+    let read : tie.After-operands = column .before .before in
+    in-column 10 _ (column .match .keys3) (read .operands .ensures)
 
 jr-requires : tie.Need-jr-requires
-jr-requires c κs = at-next _ (omega (arith, c .before .before .before .match .keys4)) (omega (arith, c .before .before .before .match .keys4)) (c .before .before .before .before .before .operands .ensures .1) (c .before .before .before .before .before .operands .ensures .0)
+jr-requires c κs =
+    let column : tie.At-match-keys4 = c .before .before .before in
+    let read : tie.After-operands = column .before .before in
+    in-column 11 _ (column .match .keys4) (read .operands .ensures)
 
 write-requires-3 : tie.Need-write-requires-3
 write-requires-3 c κs = search needs
 
 jp-requires : tie.Need-jp-requires
-jp-requires c κs = at-next _ (omega (arith, c .before .before .before .match .keys6)) (omega (arith, c .before .before .before .match .keys6)) (c .before .before .before .before .before .operands .ensures .1) (c .before .before .before .before .before .operands .ensures .0)
+jp-requires c κs =
+    let column : tie.At-match-keys6 = c .before .before .before in
+    let read : tie.After-operands = column .before .before in
+    in-column 13 _ (column .match .keys6) (read .operands .ensures)
 
 read-requires : tie.Need-read-requires
 read-requires c κs = search needs
@@ -50,21 +58,42 @@ store-requires : tie.Need-store-requires
 store-requires c κs = search needs
 
 one-requires : tie.Need-one-requires
-one-requires c κs = at-next _ (omega arith) (omega arith) (c .before .before .before .before .before .before .operands .ensures .1) (c .before .before .before .before .before .before .operands .ensures .0)
+one-requires c κs =
+    let read : tie.After-operands = c .before .before .before .before .before .before in
+    at-next _ (omega arith) (omega arith) (read .operands .ensures .1) (read .operands .ensures .0)
 
 two-requires : tie.Need-two-requires
-two-requires c κs = at-next _ (omega arith) (omega arith) (c .before .before .before .before .before .before .before .operands .ensures .1) (c .before .before .before .before .before .before .before .operands .ensures .0)
+two-requires c κs =
+    let read : tie.After-operands = c .before .before .before .before .before .before .before in
+    at-next _ (omega arith) (omega arith) (read .operands .ensures .1) (read .operands .ensures .0)
 
 alone-requires : tie.Need-alone-requires
-alone-requires c κs = let e : lower (c .before .before .before .before .before .before .before .before .before .before .before .before .args .i .op) ≡ 15 = last 8 15 (lower (c .before .before .before .before .before .before .before .before .before .before .before .before .args .i .op)) (c .before .before .before .if2 .left) (low-below (c .before .before .before .before .before .before .before .before .before .before .before .before)) (c .before .before .before .before .before .match .rest) in at-next _ (omega (arith, e)) (omega (arith, e)) (c .before .before .before .before .before .before .before .operands .ensures .1) (c .before .before .before .before .before .before .before .operands .ensures .0)
+alone-requires c κs =
+    let other : tie.Else2 = c .before .before .before in
+    let arm : tie.At-match-rest = other .before .before in
+    let read : tie.After-operands = arm .before .before in
+    let begun : tie.Start = read .before .before .before .before .before in
+    let low = lower (begun .args .i .op) in
+    let column : low ≡ 15 = last 8 15 low (other .if2 .left) (low-below begun) (arm .match .rest) in
+    in-column 15 _ column (read .operands .ensures)
 
 returns : tie.Need-returns
 unfolding entryOf opcodeMap lengthOf
-returns c = elsewhere _ _ _ _ _ _ _ _ _ (c .before .before .before .before .before .operands .ensures .1) (rw (c .write .ensures) (ld-column _ _ (op-below (c .before .before .before .before .before .before .before .before .before .before)) WorkReg 8 (at-next _ (omega (arith, c .before .before .before .match .keys1)) (omega (arith, c .before .before .before .match .keys1)) (c .before .before .before .before .before .operands .ensures .1) (c .before .before .before .before .before .operands .ensures .0)) refl refl))
+returns c =
+    let column : tie.At-match-keys1 = c .before .before .before in
+    let read : tie.After-operands = column .before .before in
+    let begun : tie.Start = read .before .before .before .before .before in
+    let asked = in-column 8 _ (column .match .keys1) (read .operands .ensures) in
+    elsewhere _ _ _ _ _ _ _ _ _ (read .operands .ensures .1) (rw (c .write .ensures) (ld-column _ _ (op-below begun) WorkReg 8 asked refl refl))
 
 returns-2 : tie.Need-returns-2
 unfolding entryOf opcodeMap lengthOf
-returns-2 c = elsewhere _ _ _ _ _ _ _ _ _ (c .before .before .before .before .before .operands .ensures .1) (rw (c .write2 .ensures) (ld-column _ _ (op-below (c .before .before .before .before .before .before .before .before .before .before)) RegWork 9 (at-next _ (omega (arith, c .before .before .before .match .keys2)) (omega (arith, c .before .before .before .match .keys2)) (c .before .before .before .before .before .operands .ensures .1) (c .before .before .before .before .before .operands .ensures .0)) refl refl))
+returns-2 c =
+    let column : tie.At-match-keys2 = c .before .before .before in
+    let read : tie.After-operands = column .before .before in
+    let begun : tie.Start = read .before .before .before .before .before in
+    let asked = in-column 9 _ (column .match .keys2) (read .operands .ensures) in
+    elsewhere _ _ _ _ _ _ _ _ _ (read .operands .ensures .1) (rw (c .write2 .ensures) (ld-column _ _ (op-below begun) RegWork 9 asked refl refl))
 
 same-length : tie.Need-same-length
 same-length c = search needs
@@ -80,7 +109,12 @@ returns-4 c = elsewhere _ _ _ _ _ _ _ _ _ (c .before .before .before .before .be
 
 returns-5 : tie.Need-returns-5
 unfolding entryOf opcodeMap lengthOf
-returns-5 c = elsewhere _ _ _ _ _ _ _ _ _ (c .before .before .before .before .before .operands .ensures .1) (rw (c .write3 .ensures) (ld-column _ _ (op-below (c .before .before .before .before .before .before .before .before .before .before)) WorkImm 12 (at-next _ (omega (arith, c .before .before .before .match .keys5)) (omega (arith, c .before .before .before .match .keys5)) (c .before .before .before .before .before .operands .ensures .1) (c .before .before .before .before .before .operands .ensures .0)) refl refl))
+returns-5 c =
+    let column : tie.At-match-keys5 = c .before .before .before in
+    let read : tie.After-operands = column .before .before in
+    let begun : tie.Start = read .before .before .before .before .before in
+    let asked = in-column 12 _ (column .match .keys5) (read .operands .ensures) in
+    elsewhere _ _ _ _ _ _ _ _ _ (read .operands .ensures .1) (rw (c .write3 .ensures) (ld-column _ _ (op-below begun) WorkImm 12 asked refl refl))
 
 same-length-3 : tie.Need-same-length-3
 same-length-3 c = search needs
@@ -90,7 +124,14 @@ returns-6 c = elsewhere _ _ _ _ _ _ _ _ _ (c .before .before .before .before .be
 
 returns-7 : tie.Need-returns-7
 unfolding unaryOf
-returns-7 c = elsewhere _ _ _ _ _ _ _ _ _ (c .before .before .before .before .before .before .before .before .before .operands .ensures .1) (rw (c .store .ensures, c .before .before .before .inc .ensures, c .before .before .before .before .read .ensures) (inc-column _ _ (op-below (c .before .before .before .before .before .before .before .before .before .before .before .before .before .before)) (at-next _ (omega (arith, c .before .before .before .before .before .before .before .match .keys7)) (omega (arith, c .before .before .before .before .before .before .before .match .keys7)) (c .before .before .before .before .before .before .before .before .before .operands .ensures .1) (c .before .before .before .before .before .before .before .before .before .operands .ensures .0))))
+returns-7 c =
+    let added : tie.After-inc = c .before .before .before in
+    let was : tie.After-read = added .before in
+    let column : tie.At-match-keys7 = was .before .before .before in
+    let read : tie.After-operands = column .before .before in
+    let begun : tie.Start = read .before .before .before .before .before in
+    let asked = in-column 14 _ (column .match .keys7) (read .operands .ensures) in
+    elsewhere _ _ _ _ _ _ _ _ _ (read .operands .ensures .1) (rw (c .store .ensures, added .inc .ensures, was .read .ensures) (inc-column _ _ (op-below begun) asked))
 
 same-length-4 : tie.Need-same-length-4
 same-length-4 c = search needs

@@ -1,8 +1,10 @@
 use borrow.Author.Needs.{needs}
 use Rattle.perform.proofs.alone.alone.Statement.{statement}
 use Rattle.perform.proofs.alone.alone.Tie as tie
+use mathlib.Core.Path.{_≡_}
 use native.Mathlib.Omega.{arith}
 use Prim.Native.Nat.{_<_}
+use Rattle.word.specs.Fields.{lower}
 use Rattle.opcodes.specs.Map.{entryOf, opcodeMap}
 use Rattle.operands.proofs.Arms.{blank-is-refused}
 use Rattle.perform.proofs.Arms.{alone-blank}
@@ -66,20 +68,40 @@ returns-4 : tie.Need-returns-4
 returns-4 c = rw (c .iret .ensures) (iret-arm _ _ (c .before .before .before .before .before .before .before .pre) (c .before .before .before .match .keys4))
 
 returns-5 : tie.Need-returns-5
-returns-5 c = rw (c .write .ensures, c .before .before .before .rcf .ensures, c .before .before .before .before .flags .ensures) (rcf-arm _ _ (c .before .before .before .before .before .before .before .before .before .before .before .pre) (c .before .before .before .before .before .before .before .match .keys5))
+returns-5 c =
+    let changed : tie.After-rcf = c .before .before .before in
+    let was : tie.After-flags = changed .before in
+    let row : tie.At-match-keys5 = was .before .before .before in
+    let begun : tie.Start = row .before .before .before .before in
+    rw (c .write .ensures, changed .rcf .ensures, was .flags .ensures) (rcf-arm _ _ (begun .pre) (row .match .keys5))
 
 returns-6 : tie.Need-returns-6
-returns-6 c = rw (c .write2 .ensures, c .before .before .before .scf .ensures, c .before .before .before .before .flags2 .ensures) (scf-arm _ _ (c .before .before .before .before .before .before .before .before .before .before .before .pre) (c .before .before .before .before .before .before .before .match .keys6))
+returns-6 c =
+    let changed : tie.After-scf = c .before .before .before in
+    let was : tie.After-flags2 = changed .before in
+    let row : tie.At-match-keys6 = was .before .before .before in
+    let begun : tie.Start = row .before .before .before .before in
+    rw (c .write2 .ensures, changed .scf .ensures, was .flags2 .ensures) (scf-arm _ _ (begun .pre) (row .match .keys6))
 
 returns-7 : tie.Need-returns-7
-returns-7 c = rw (c .write3 .ensures, c .before .before .before .ccf .ensures, c .before .before .before .before .flags3 .ensures) (ccf-arm _ _ (c .before .before .before .before .before .before .before .before .before .before .before .pre) (c .before .before .before .before .before .before .before .match .keys7))
+returns-7 c =
+    let changed : tie.After-ccf = c .before .before .before in
+    let was : tie.After-flags3 = changed .before in
+    let row : tie.At-match-keys7 = was .before .before .before in
+    let begun : tie.Start = row .before .before .before .before in
+    rw (c .write3 .ensures, changed .ccf .ensures, was .flags3 .ensures) (ccf-arm _ _ (begun .pre) (row .match .keys7))
 
 returns-8 : tie.Need-returns-8
 returns-8 c = nop-arm _ _ (c .before .before .before .before .pre) (c .match .keys8)
 
 returns-9 : tie.Need-returns-9
 unfolding entryOf opcodeMap
-returns-9 c = rw (c .refused .ensures .0, c .refused .ensures .1) (blank-is-refused _ _ _ _ _ _ (alone-blank (c .before .before .before .before .before .before .before .args .i .op) (op-below (c .before .before .before .before .before .before .before)) (omega (arith, c .before .before .before .before .before .before .before .pre .low, c .before .before .before .before .before .before .before .pre .high)) (c .before .before .before .match .rest)))
+returns-9 c =
+    let blank : tie.At-match-rest = c .before .before .before in
+    let begun : tie.Start = blank .before .before .before .before in
+    let column : lower (begun .args .i .op) ≡ 15 = omega (arith, begun .pre .low, begun .pre .high) in
+    rw (c .refused .ensures .0, c .refused .ensures .1)
+    (blank-is-refused _ _ _ _ _ _ (alone-blank (begun .args .i .op) (op-below begun) column (blank .match .rest)))
 
 pub alone-spec : {M : Type 1} → statement M
 alone-spec =

@@ -31,11 +31,28 @@ op-below s = search needs
 
 returns : tie.Need-returns
 unfolding jumped
-returns c = rw (c .set-pc .ensures, c .before .before .before .moved .ensures, c .before .before .before .before .before .write .ensures, c .before .before .before .before .before .before .before .before .before .before .before .before .pc .ensures) (djnz-arm _ _ (op-below (c .before .before .before .before .before .before .before .before .before .before .before .before .before .before .before .before)) (c .before .before .before .before .before .before .before .before .before .before .before .before .before .before .before .before .pre) (c .before .before .before .before .before .before .before .before .wrapping-add-u8 .result) true (c .before .before .before .before .before .before .before .before .wrapping-add-u8 .ensures ∙ ap (λ (x : ℕ). (x + 255) % 256) (c .before .before .before .before .before .before .before .before .before .read .ensures)) (ap not (ne-eqb (c .before .before .before .before .before .before .before .before .wrapping-add-u8 .result) 0 (c .before .before .before .before .if1 .taken))))
+returns c =
+    let to : tie.After-moved = c .before .before .before in
+    let test : tie.Then1 = to .before in
+    let written : tie.After-write = test .before in
+    let less : tie.After-wrapping-add-u8 = written .before .before .before in
+    let was : tie.After-read = less .before in
+    let less-is = less .wrapping-add-u8 .ensures ∙ ap (λ (x : ℕ). (x + 255) % 256) (was .read .ensures) in
+    let more = ap not (ne-eqb (less .wrapping-add-u8 .result) 0 (test .if1 .taken)) in
+    let here : tie.After-pc = was .before .before .before in
+    let begun : tie.Start = here .before .before .before .before in
+    rw (c .set-pc .ensures, to .moved .ensures, written .write .ensures, here .pc .ensures) (djnz-arm _ _ (op-below begun) (begun .pre) _ true less-is more)
 
 returns-2 : tie.Need-returns-2
 unfolding jumped
-returns-2 c = rw (c .before .write .ensures) (djnz-arm _ _ (op-below (c .before .before .before .before .before .before .before .before .before .before .before .before)) (c .before .before .before .before .before .before .before .before .before .before .before .before .pre) (c .before .before .before .before .wrapping-add-u8 .result) false (c .before .before .before .before .wrapping-add-u8 .ensures ∙ ap (λ (x : ℕ). (x + 255) % 256) (c .before .before .before .before .before .read .ensures)) (ap not (eq-eqb (c .before .before .before .before .wrapping-add-u8 .result) 0 (c .if1 .left))))
+returns-2 c =
+    let written : tie.After-write = c .before in
+    let less : tie.After-wrapping-add-u8 = written .before .before .before in
+    let was : tie.After-read = less .before in
+    let less-is = less .wrapping-add-u8 .ensures ∙ ap (λ (x : ℕ). (x + 255) % 256) (was .read .ensures) in
+    let none = ap not (eq-eqb (less .wrapping-add-u8 .result) 0 (c .if1 .left)) in
+    let begun : tie.Start = was .before .before .before .before .before .before .before in
+    rw (written .write .ensures) (djnz-arm _ _ (op-below begun) (begun .pre) _ false less-is none)
 
 pub djnz-spec : {M : Type 1} → statement M
 djnz-spec =

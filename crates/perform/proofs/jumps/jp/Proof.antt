@@ -21,7 +21,13 @@ op-below s = search needs
 
 returns : tie.Need-returns
 unfolding jumped
-returns c = rw (c .set-pc .ensures, c .before .before .word .ensures) (jp-arm _ _ (op-below (c .before .before .before .before .before .before .before .before)) (c .before .before .before .before .before .before .before .before .pre) true (sym (c .before .before .before .before .condition .ensures) ∙ c .before .before .before .if1 .taken))
+returns c =
+    let to : tie.After-word = c .before .before in
+    let test : tie.Then1 = to .before in
+    let asked : tie.After-condition = test .before in
+    let begun : tie.Start = asked .before .before .before .before in
+    let holds = sym (asked .condition .ensures) ∙ test .if1 .taken in
+    rw (c .set-pc .ensures, to .word .ensures) (jp-arm _ _ (op-below begun) (begun .pre) true holds)
 
 returns-2 : tie.Need-returns-2
 unfolding jumped

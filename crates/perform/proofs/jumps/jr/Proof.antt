@@ -24,7 +24,14 @@ op-below s = search needs
 
 returns : tie.Need-returns
 unfolding jumped
-returns c = rw (c .set-pc .ensures, c .before .before .moved .ensures, c .before .before .before .pc .ensures) (jr-arm _ _ (op-below (c .before .before .before .before .before .before .before .before .before .before)) (c .before .before .before .before .before .before .before .before .before .before .pre) true (sym (c .before .before .before .before .before .before .condition .ensures) ∙ c .before .before .before .before .before .if1 .taken))
+returns c =
+    let to : tie.After-moved = c .before .before in
+    let here : tie.After-pc = to .before in
+    let test : tie.Then1 = here .before .before in
+    let asked : tie.After-condition = test .before in
+    let begun : tie.Start = asked .before .before .before .before in
+    let holds = sym (asked .condition .ensures) ∙ test .if1 .taken in
+    rw (c .set-pc .ensures, to .moved .ensures, here .pc .ensures) (jr-arm _ _ (op-below begun) (begun .pre) true holds)
 
 returns-2 : tie.Need-returns-2
 unfolding jumped

@@ -31,7 +31,16 @@ interrupts-requires c κs = search needs
 
 returns : tie.Need-returns
 unfolding doneOf iretDeed interruptReturned
-returns c = rw (c .interrupts .ensures, c .before .before .before .set-pc .ensures, c .before .before .before .before .before .before .place .ensures, placed-is 0xFC (c .before .before .before .before .before .before .before .before .before .before .before .before .before .before .before .before .before .before .byte-at .result) (c .before .before .before .before .before .before .before .before .raise .ensures), c .before .before .before .before .before .before .before .before .before .before .before .word .ensures, c .before .before .before .before .before .before .before .before .before .before .before .before .byte-at3 .ensures, c .before .before .before .before .before .before .before .before .before .before .before .before .before .before .before .byte-at2 .ensures, c .before .before .before .before .before .before .before .before .before .before .before .before .before .before .before .before .before .before .byte-at .ensures)
+returns c =
+    let placed : tie.After-set-pc = c .before .before .before in
+    let loaded : tie.After-place = placed .before .before .before in
+    let raised : tie.After-raise = loaded .before .before in
+    let to : tie.After-word = raised .before .before .before in
+    let lo : tie.After-byte-at3 = to .before in
+    let hi : tie.After-byte-at2 = lo .before .before .before in
+    let flags : tie.After-byte-at = hi .before .before .before in
+    let with-flags = placed-is 0xFC (flags .byte-at .result) (raised .raise .ensures) in
+    rw (c .interrupts .ensures, placed .set-pc .ensures, loaded .place .ensures, with-flags, to .word .ensures, lo .byte-at3 .ensures, hi .byte-at2 .ensures, flags .byte-at .ensures)
 
 pub iret-spec : {M : Type 1} → statement M
 iret-spec = tie.close (tie.spec byte-at-requires byte-at-requires-2 byte-at-requires-3 word-requires raise-requires place-requires set-pc-requires interrupts-requires returns)

@@ -21,7 +21,12 @@ set-pc-requires c κs = search needs
 
 returns : tie.Need-returns
 unfolding doneOf retDeed returned
-returns c = rw (c .set-pc .ensures, c .before .before .before .raise .ensures, c .before .before .before .before .before .before .word .ensures, c .before .before .before .before .before .before .before .byte-at2 .ensures, c .before .before .before .before .before .before .before .before .before .before .byte-at .ensures)
+returns c =
+    let raised : tie.After-raise = c .before .before .before in
+    let to : tie.After-word = raised .before .before .before in
+    let lo : tie.After-byte-at2 = to .before in
+    let hi : tie.After-byte-at = lo .before .before .before in
+    rw (c .set-pc .ensures, raised .raise .ensures, to .word .ensures, lo .byte-at2 .ensures, hi .byte-at .ensures)
 
 pub ret-spec : {M : Type 1} → statement M
 ret-spec = tie.close (tie.spec byte-at-requires byte-at-requires-2 word-requires raise-requires set-pc-requires returns)
