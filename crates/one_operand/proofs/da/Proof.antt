@@ -24,7 +24,13 @@ enum-told c = search needs
 
 returns : tie.Need-returns
 unfolding doneOf adjustDeed
-returns c = rw (c .store .ensures, ← c .before .before .before .before .before .before .before .before .before .before .read .ensures, ← c .before .before .before .before .before .before .before .flags .ensures, ← c .before .before .before .before .before .before .da .ensures, c .before .before .before .known-told .given .1, c .before .before .before .before .x .given .1)
+returns c =
+    let told : tie.After-known-told = c .before .before .before in
+    let by : tie.After-x = told .before in
+    let adjusted : tie.After-da = by .before .before in
+    let flags : tie.After-flags = adjusted .before in
+    let was : tie.After-read = flags .before .before .before in
+    rw (c .store .ensures, ← was .read .ensures, ← flags .flags .ensures, ← adjusted .da .ensures, told .known-told .given .1, by .x .given .1)
 
 returns-2 : tie.Need-returns-2
 unfolding doneOf adjustDeed

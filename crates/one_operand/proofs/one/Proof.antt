@@ -136,15 +136,31 @@ store-requires-9 c κs = search needs
 
 returns-2 : tie.Need-returns-2
 unfolding entryOf opcodeMap lengthOf unaryOf
-returns-2 c = rw (c .store .ensures, c .before .before .before .dec .ensures, c .before .before .before .before .before .read .ensures) (unary-arm _ _ (c .before .before .before .before .before .before .before .before .before .before .before .before .pre) unary.Dec 0 (c .before .before .before .before .match .keys1) refl)
+returns-2 c =
+    let changed : tie.After-dec = c .before .before .before in
+    let row : tie.At-match-keys1 = changed .before in
+    let was : tie.After-read = row .before in
+    let begun : tie.Start = was .before .before .before .before .before .before .before in
+    rw (c .store .ensures, changed .dec .ensures, was .read .ensures) (unary-arm _ _ (begun .pre) unary.Dec 0 (row .match .keys1) refl)
 
 returns-3 : tie.Need-returns-3
 unfolding entryOf opcodeMap lengthOf unaryOf
-returns-3 c = rw (c .store2 .ensures, c .before .before .before .rlc .ensures, c .before .before .before .before .flags .ensures, c .before .before .before .before .before .before .before .before .read .ensures) (unary-arm _ _ (c .before .before .before .before .before .before .before .before .before .before .before .before .before .before .before .pre) unary.Rlc 1 (c .before .before .before .before .before .before .before .match .keys2) refl)
+returns-3 c =
+    let changed : tie.After-rlc = c .before .before .before in
+    let flags : tie.After-flags = changed .before in
+    let row : tie.At-match-keys2 = flags .before .before .before in
+    let was : tie.After-read = row .before in
+    let begun : tie.Start = was .before .before .before .before .before .before .before in
+    rw (c .store2 .ensures, changed .rlc .ensures, flags .flags .ensures, was .read .ensures) (unary-arm _ _ (begun .pre) unary.Rlc 1 (row .match .keys2) refl)
 
 returns-4 : tie.Need-returns-4
 unfolding entryOf opcodeMap lengthOf unaryOf
-returns-4 c = rw (c .store3 .ensures, c .before .before .before .inc .ensures, c .before .before .before .before .before .read .ensures) (unary-arm _ _ (c .before .before .before .before .before .before .before .before .before .before .before .before .pre) unary.Inc 2 (c .before .before .before .before .match .keys3) refl)
+returns-4 c =
+    let changed : tie.After-inc = c .before .before .before in
+    let row : tie.At-match-keys3 = changed .before in
+    let was : tie.After-read = row .before in
+    let begun : tie.Start = was .before .before .before .before .before .before .before in
+    rw (c .store3 .ensures, changed .inc .ensures, was .read .ensures) (unary-arm _ _ (begun .pre) unary.Inc 2 (row .match .keys3) refl)
 
 returns-5 : tie.Need-returns-5
 returns-5 c = rw (c .write .ensures) (srp-arm _ _ (c .before .before .before .before .before .before .before .before .before .before .before .before .pre) (omega arith))
@@ -157,48 +173,102 @@ same-length c = search needs
 
 returns-7 : tie.Need-returns-7
 unfolding popped
-returns-7 c = rw (c .write2 .ensures, c .before .before .before .raise .ensures, c .before .before .before .before .before .before .byte-at .ensures) (pop-arm _ _ (c .before .before .before .before .before .before .before .before .before .before .before .before .before .before .before .before .before .before .pre) (c .before .before .before .before .before .before .before .before .before .before .match .keys6))
+returns-7 c =
+    let byte : tie.After-byte-at = c .before .before .before .before .before .before in
+    let row : tie.At-match-keys6 = byte .before .before .before .before in
+    let begun : tie.Start = row .before .before .before .before .before .before .before .before in
+    rw (c .write2 .ensures, c .before .before .before .raise .ensures, byte .byte-at .ensures) (pop-arm _ _ (begun .pre) (row .match .keys6))
 
 returns-8 : tie.Need-returns-8
 unfolding entryOf opcodeMap lengthOf unaryOf
-returns-8 c = rw (c .store4 .ensures, c .before .before .before .«com» .ensures, c .before .before .before .before .before .read .ensures) (unary-arm _ _ (c .before .before .before .before .before .before .before .before .before .before .before .before .pre) unary.Com 6 (c .before .before .before .before .match .keys7) refl)
+returns-8 c =
+    let changed : tie.After-com = c .before .before .before in
+    let row : tie.At-match-keys7 = changed .before in
+    let was : tie.After-read = row .before in
+    let begun : tie.Start = was .before .before .before .before .before .before .before in
+    rw (c .store4 .ensures, changed .«com» .ensures, was .read .ensures) (unary-arm _ _ (begun .pre) unary.Com 6 (row .match .keys7) refl)
 
 same-length-2 : tie.Need-same-length-2
 same-length-2 c = search needs
 
 returns-9 : tie.Need-returns-9
-returns-9 c = rw (c .before .before .before .before .before .before .push-cycles .ensures, c .before .before .before .before .before .before .before .is-internal .ensures) (push-arm _ _ (c .before .before .before .before .before .before .before .before .before .before .before .before .before .before .before .before .before .before .pre) (c .before .before .before .before .before .before .before .before .before .before .match .keys8) _ (rw (c .before .before .before .before .before .before .before .before .before .before .before .read .ensures) at (c .before .before .push .ensures)))
+returns-9 c =
+    let pushed : tie.After-push = c .before .before in
+    let cycles : tie.After-push-cycles = pushed .before .before .before .before in
+    let stack : tie.After-is-internal = cycles .before in
+    let row : tie.At-match-keys8 = stack .before .before .before in
+    let was : tie.After-read = row .before in
+    let begun : tie.Start = was .before .before .before .before .before .before .before in
+    let left = rw (was .read .ensures) at (pushed .push .ensures) in
+    rw (cycles .push-cycles .ensures, stack .is-internal .ensures) (push-arm _ _ (begun .pre) (row .match .keys8) _ left)
 
 returns-10 : tie.Need-returns-10
 unfolding entryOf opcodeMap lengthOf pairedOf
-returns-10 c = rw (c .store-word .ensures, c .before .before .before .decw .ensures, c .before .before .before .before .read-pair2 .ensures) (paired-arm _ _ (c .before .before .before .before .before .before .before .before .before .before .before .before .before .before .before .pre) paired.Decw 8 (c .before .before .before .before .before .before .before .match .keys9) refl)
+returns-10 c =
+    let changed : tie.After-decw = c .before .before .before in
+    let pair : tie.After-read-pair2 = changed .before in
+    let row : tie.At-match-keys9 = pair .before .before .before in
+    let begun : tie.Start = row .before .before .before .before .before .before .before .before in
+    rw (c .store-word .ensures, changed .decw .ensures, pair .read-pair2 .ensures) (paired-arm _ _ (begun .pre) paired.Decw 8 (row .match .keys9) refl)
 
 returns-11 : tie.Need-returns-11
 unfolding entryOf opcodeMap lengthOf unaryOf
-returns-11 c = rw (c .store5 .ensures, c .before .before .before .rl .ensures, c .before .before .before .before .before .read .ensures) (unary-arm _ _ (c .before .before .before .before .before .before .before .before .before .before .before .before .pre) unary.Rl 9 (c .before .before .before .before .match .keys10) refl)
+returns-11 c =
+    let changed : tie.After-rl = c .before .before .before in
+    let row : tie.At-match-keys10 = changed .before in
+    let was : tie.After-read = row .before in
+    let begun : tie.Start = was .before .before .before .before .before .before .before in
+    rw (c .store5 .ensures, changed .rl .ensures, was .read .ensures) (unary-arm _ _ (begun .pre) unary.Rl 9 (row .match .keys10) refl)
 
 returns-12 : tie.Need-returns-12
 unfolding entryOf opcodeMap lengthOf pairedOf
-returns-12 c = rw (c .store-word2 .ensures, c .before .before .before .incw .ensures, c .before .before .before .before .read-pair3 .ensures) (paired-arm _ _ (c .before .before .before .before .before .before .before .before .before .before .before .before .before .before .before .pre) paired.Incw 10 (c .before .before .before .before .before .before .before .match .keys11) refl)
+returns-12 c =
+    let changed : tie.After-incw = c .before .before .before in
+    let pair : tie.After-read-pair3 = changed .before in
+    let row : tie.At-match-keys11 = pair .before .before .before in
+    let begun : tie.Start = row .before .before .before .before .before .before .before .before in
+    rw (c .store-word2 .ensures, changed .incw .ensures, pair .read-pair3 .ensures) (paired-arm _ _ (begun .pre) paired.Incw 10 (row .match .keys11) refl)
 
 returns-13 : tie.Need-returns-13
 returns-13 c = rw (c .write3 .ensures) (clr-arm _ _ (c .before .before .before .before .before .before .before .before .before .before .before .pre) (c .before .before .before .match .keys12))
 
 returns-14 : tie.Need-returns-14
 unfolding entryOf opcodeMap lengthOf unaryOf
-returns-14 c = rw (c .store6 .ensures, c .before .before .before .rrc .ensures, c .before .before .before .before .flags2 .ensures, c .before .before .before .before .before .before .before .before .read .ensures) (unary-arm _ _ (c .before .before .before .before .before .before .before .before .before .before .before .before .before .before .before .pre) unary.Rrc 12 (c .before .before .before .before .before .before .before .match .keys13) refl)
+returns-14 c =
+    let changed : tie.After-rrc = c .before .before .before in
+    let flags : tie.After-flags2 = changed .before in
+    let row : tie.At-match-keys13 = flags .before .before .before in
+    let was : tie.After-read = row .before in
+    let begun : tie.Start = was .before .before .before .before .before .before .before in
+    rw (c .store6 .ensures, changed .rrc .ensures, flags .flags2 .ensures, was .read .ensures) (unary-arm _ _ (begun .pre) unary.Rrc 12 (row .match .keys13) refl)
 
 returns-15 : tie.Need-returns-15
 unfolding entryOf opcodeMap lengthOf unaryOf
-returns-15 c = rw (c .store7 .ensures, c .before .before .before .sra .ensures, c .before .before .before .before .before .read .ensures) (unary-arm _ _ (c .before .before .before .before .before .before .before .before .before .before .before .before .pre) unary.Sra 13 (c .before .before .before .before .match .keys14) refl)
+returns-15 c =
+    let changed : tie.After-sra = c .before .before .before in
+    let row : tie.At-match-keys14 = changed .before in
+    let was : tie.After-read = row .before in
+    let begun : tie.Start = was .before .before .before .before .before .before .before in
+    rw (c .store7 .ensures, changed .sra .ensures, was .read .ensures) (unary-arm _ _ (begun .pre) unary.Sra 13 (row .match .keys14) refl)
 
 returns-16 : tie.Need-returns-16
 unfolding entryOf opcodeMap lengthOf unaryOf
-returns-16 c = rw (c .store8 .ensures, c .before .before .before .rr .ensures, c .before .before .before .before .before .read .ensures) (unary-arm _ _ (c .before .before .before .before .before .before .before .before .before .before .before .before .pre) unary.Rr 14 (c .before .before .before .before .match .keys15) refl)
+returns-16 c =
+    let changed : tie.After-rr = c .before .before .before in
+    let row : tie.At-match-keys15 = changed .before in
+    let was : tie.After-read = row .before in
+    let begun : tie.Start = was .before .before .before .before .before .before .before in
+    rw (c .store8 .ensures, changed .rr .ensures, was .read .ensures) (unary-arm _ _ (begun .pre) unary.Rr 14 (row .match .keys15) refl)
 
 returns-17 : tie.Need-returns-17
 unfolding entryOf opcodeMap lengthOf unaryOf
-returns-17 c = rw (c .store9 .ensures, c .before .before .before .swap .ensures, c .before .before .before .before .before .read .ensures) (unary-arm _ _ (c .before .before .before .before .before .before .before .before .before .before .before .before .pre) unary.Swap 15 (last 0 15 (upper (c .before .before .before .before .before .before .before .before .before .before .before .before .args .i .op)) (omega arith) (row-below (c .before .before .before .before .before .before .before .before .before .before .before .before)) (c .before .before .before .before .match .rest)) refl)
+returns-17 c =
+    let changed : tie.After-swap = c .before .before .before in
+    let arm : tie.At-match-rest = changed .before in
+    let was : tie.After-read = arm .before in
+    let begun : tie.Start = was .before .before .before .before .before .before .before in
+    let row = last 0 15 (upper (begun .args .i .op)) (omega arith) (row-below begun) (arm .match .rest) in
+    rw (c .store9 .ensures, changed .swap .ensures, was .read .ensures) (unary-arm _ _ (begun .pre) unary.Swap 15 row refl)
 
 pub one-spec : {M : Type 1} → statement M
 one-spec =
