@@ -98,47 +98,103 @@ write-requires : tie.Need-write-requires
 write-requires c κs = search needs
 
 singles-requires : tie.Need-singles-requires
-singles-requires c κs = record { low = c .before .before .before .before .before .before .before .before .before .before .pre .low; high = c .before .before .before .before .before .before .before .before .before .before .pre .high; next = c .before .before .before .before .before .before .before .before .before .before .pre .next; row = else-passes singleRow 16 (upper (c .before .before .before .before .before .before .before .before .before .before .args .i .op)) (row-below (c .before .before .before .before .before .before .before .before .before .before)) (c .before .before .before .match .rest) }
+singles-requires c κs =
+    let arm : tie.At-match-rest = c .before .before .before in
+    let begun : tie.Start = arm .before .before .before .before .before .before .before in
+    let row = else-passes singleRow 16 (upper (begun .args .i .op)) (row-below begun) (arm .match .rest) in
+    record { low = begun .pre .low; high = begun .pre .high; next = begun .pre .next; row = row }
 
 returns-2 : tie.Need-returns-2
 unfolding entryOf opcodeMap lengthOf binaryOf
-returns-2 c = rw (c .store .ensures, c .before .before .before .add .ensures, c .before .before .before .before .before .read .ensures) (binary-arm _ _ (c .before .before .before .before .before .before .before .before .before .before .before .pre) binary.Add 0 (c .before .before .before .before .match .keys1) refl)
+returns-2 c =
+    let made : tie.After-add = c .before .before .before in
+    let row : tie.At-match-keys1 = made .before in
+    let was : tie.After-read = row .before in
+    let begun : tie.Start = was .before .before .before .before .before .before in
+    rw (c .store .ensures, made .add .ensures, was .read .ensures) (binary-arm _ _ (begun .pre) binary.Add 0 (row .match .keys1) refl)
 
 returns-3 : tie.Need-returns-3
 unfolding entryOf opcodeMap lengthOf binaryOf
-returns-3 c = rw (c .store2 .ensures, c .before .before .before .adc .ensures, c .before .before .before .before .flags .ensures, c .before .before .before .before .before .before .before .before .read .ensures) (binary-arm _ _ (c .before .before .before .before .before .before .before .before .before .before .before .before .before .before .pre) binary.Adc 1 (c .before .before .before .before .before .before .before .match .keys2) refl)
+returns-3 c =
+    let made : tie.After-adc = c .before .before .before in
+    let flags : tie.After-flags = made .before in
+    let row : tie.At-match-keys2 = flags .before .before .before in
+    let was : tie.After-read = row .before in
+    let begun : tie.Start = was .before .before .before .before .before .before in
+    rw (c .store2 .ensures, made .adc .ensures, flags .flags .ensures, was .read .ensures) (binary-arm _ _ (begun .pre) binary.Adc 1 (row .match .keys2) refl)
 
 returns-4 : tie.Need-returns-4
 unfolding entryOf opcodeMap lengthOf binaryOf
-returns-4 c = rw (c .store3 .ensures, c .before .before .before .sub .ensures, c .before .before .before .before .before .read .ensures) (binary-arm _ _ (c .before .before .before .before .before .before .before .before .before .before .before .pre) binary.Sub 2 (c .before .before .before .before .match .keys3) refl)
+returns-4 c =
+    let made : tie.After-sub = c .before .before .before in
+    let row : tie.At-match-keys3 = made .before in
+    let was : tie.After-read = row .before in
+    let begun : tie.Start = was .before .before .before .before .before .before in
+    rw (c .store3 .ensures, made .sub .ensures, was .read .ensures) (binary-arm _ _ (begun .pre) binary.Sub 2 (row .match .keys3) refl)
 
 returns-5 : tie.Need-returns-5
 unfolding entryOf opcodeMap lengthOf binaryOf
-returns-5 c = rw (c .store4 .ensures, c .before .before .before .sbc .ensures, c .before .before .before .before .flags2 .ensures, c .before .before .before .before .before .before .before .before .read .ensures) (binary-arm _ _ (c .before .before .before .before .before .before .before .before .before .before .before .before .before .before .pre) binary.Sbc 3 (c .before .before .before .before .before .before .before .match .keys4) refl)
+returns-5 c =
+    let made : tie.After-sbc = c .before .before .before in
+    let flags : tie.After-flags2 = made .before in
+    let row : tie.At-match-keys4 = flags .before .before .before in
+    let was : tie.After-read = row .before in
+    let begun : tie.Start = was .before .before .before .before .before .before in
+    rw (c .store4 .ensures, made .sbc .ensures, flags .flags2 .ensures, was .read .ensures) (binary-arm _ _ (begun .pre) binary.Sbc 3 (row .match .keys4) refl)
 
 returns-6 : tie.Need-returns-6
 unfolding entryOf opcodeMap lengthOf binaryOf
-returns-6 c = rw (c .store5 .ensures, c .before .before .before .or .ensures, c .before .before .before .before .before .read .ensures) (binary-arm _ _ (c .before .before .before .before .before .before .before .before .before .before .before .pre) binary.Or 4 (c .before .before .before .before .match .keys5) refl)
+returns-6 c =
+    let made : tie.After-or = c .before .before .before in
+    let row : tie.At-match-keys5 = made .before in
+    let was : tie.After-read = row .before in
+    let begun : tie.Start = was .before .before .before .before .before .before in
+    rw (c .store5 .ensures, made .or .ensures, was .read .ensures) (binary-arm _ _ (begun .pre) binary.Or 4 (row .match .keys5) refl)
 
 returns-7 : tie.Need-returns-7
 unfolding entryOf opcodeMap lengthOf binaryOf
-returns-7 c = rw (c .store6 .ensures, c .before .before .before .and .ensures, c .before .before .before .before .before .read .ensures) (binary-arm _ _ (c .before .before .before .before .before .before .before .before .before .before .before .pre) binary.And 5 (c .before .before .before .before .match .keys6) refl)
+returns-7 c =
+    let made : tie.After-and = c .before .before .before in
+    let row : tie.At-match-keys6 = made .before in
+    let was : tie.After-read = row .before in
+    let begun : tie.Start = was .before .before .before .before .before .before in
+    rw (c .store6 .ensures, made .and .ensures, was .read .ensures) (binary-arm _ _ (begun .pre) binary.And 5 (row .match .keys6) refl)
 
 returns-8 : tie.Need-returns-8
 unfolding entryOf opcodeMap lengthOf testOf
-returns-8 c = rw (c .lay .ensures, c .before .before .before .tcm .ensures, c .before .before .before .before .before .read .ensures) (test-arm _ _ (c .before .before .before .before .before .before .before .before .before .before .before .pre) test.Tcm 6 (c .before .before .before .before .match .keys7) refl)
+returns-8 c =
+    let made : tie.After-tcm = c .before .before .before in
+    let row : tie.At-match-keys7 = made .before in
+    let was : tie.After-read = row .before in
+    let begun : tie.Start = was .before .before .before .before .before .before in
+    rw (c .lay .ensures, made .tcm .ensures, was .read .ensures) (test-arm _ _ (begun .pre) test.Tcm 6 (row .match .keys7) refl)
 
 returns-9 : tie.Need-returns-9
 unfolding entryOf opcodeMap lengthOf testOf
-returns-9 c = rw (c .lay2 .ensures, c .before .before .before .tm .ensures, c .before .before .before .before .before .read .ensures) (test-arm _ _ (c .before .before .before .before .before .before .before .before .before .before .before .pre) test.Tm 7 (c .before .before .before .before .match .keys8) refl)
+returns-9 c =
+    let made : tie.After-tm = c .before .before .before in
+    let row : tie.At-match-keys8 = made .before in
+    let was : tie.After-read = row .before in
+    let begun : tie.Start = was .before .before .before .before .before .before in
+    rw (c .lay2 .ensures, made .tm .ensures, was .read .ensures) (test-arm _ _ (begun .pre) test.Tm 7 (row .match .keys8) refl)
 
 returns-10 : tie.Need-returns-10
 unfolding entryOf opcodeMap lengthOf testOf
-returns-10 c = rw (c .lay3 .ensures, c .before .before .before .cp .ensures, c .before .before .before .before .before .read .ensures) (test-arm _ _ (c .before .before .before .before .before .before .before .before .before .before .before .pre) test.Cp 10 (c .before .before .before .before .match .keys9) refl)
+returns-10 c =
+    let made : tie.After-cp = c .before .before .before in
+    let row : tie.At-match-keys9 = made .before in
+    let was : tie.After-read = row .before in
+    let begun : tie.Start = was .before .before .before .before .before .before in
+    rw (c .lay3 .ensures, made .cp .ensures, was .read .ensures) (test-arm _ _ (begun .pre) test.Cp 10 (row .match .keys9) refl)
 
 returns-11 : tie.Need-returns-11
 unfolding entryOf opcodeMap lengthOf binaryOf
-returns-11 c = rw (c .store7 .ensures, c .before .before .before .xor .ensures, c .before .before .before .before .before .read .ensures) (binary-arm _ _ (c .before .before .before .before .before .before .before .before .before .before .before .pre) binary.Xor 11 (c .before .before .before .before .match .keys10) refl)
+returns-11 c =
+    let made : tie.After-xor = c .before .before .before in
+    let row : tie.At-match-keys10 = made .before in
+    let was : tie.After-read = row .before in
+    let begun : tie.Start = was .before .before .before .before .before .before in
+    rw (c .store7 .ensures, made .xor .ensures, was .read .ensures) (binary-arm _ _ (begun .pre) binary.Xor 11 (row .match .keys10) refl)
 
 returns-12 : tie.Need-returns-12
 returns-12 c = rw (c .write .ensures) (ld-arm _ _ (c .before .before .before .before .before .before .before .before .before .before .before .before .pre) (c .before .before .before .before .before .match .keys11) (omega arith))
