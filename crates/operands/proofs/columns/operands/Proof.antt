@@ -145,19 +145,43 @@ returns-2 c = (rw (c .indirect .ensures, c .before .before .before .before .matc
 
 returns-3 : tie.Need-returns-3
 unfolding columnAt operandsOf fromRegister oneAt
-returns-3 c = (rw (c .read .ensures, c .before .before .working2 .ensures, c .before .before .before .before .before .working .ensures, c .before .before .before .before .before .before .before .before .before .before .match .keys3) refl, rw (c .before .before .before .before .before .before .before .before .before .before .match .keys3) (c .before .before .before .before .before .before .before .before .at3 .ensures))
+returns-3 c =
+    let src : tie.After-working2 = c .before .before in
+    let dst : tie.After-working = src .before .before .before in
+    let next : tie.After-at3 = dst .before .before .before in
+    let column : tie.At-match-keys3 = next .before .before in
+    let is = column .match .keys3 in
+    (rw (c .read .ensures, src .working2 .ensures, dst .working .ensures, is) refl, rw is (next .at3 .ensures))
 
 returns-4 : tie.Need-returns-4
 unfolding columnAt operandsOf fromRegister oneAt
-returns-4 c = (rw (c .read2 .ensures, c .before .before .working-indirect .ensures, c .before .before .before .before .before .working3 .ensures, c .before .before .before .before .before .before .before .before .before .before .match .keys4) refl, rw (c .before .before .before .before .before .before .before .before .before .before .match .keys4) (c .before .before .before .before .before .before .before .before .at4 .ensures))
+returns-4 c =
+    let src : tie.After-working-indirect = c .before .before in
+    let dst : tie.After-working3 = src .before .before .before in
+    let next : tie.After-at4 = dst .before .before .before in
+    let column : tie.At-match-keys4 = next .before .before in
+    let is = column .match .keys4 in
+    (rw (c .read2 .ensures, src .working-indirect .ensures, dst .working3 .ensures, is) refl, rw is (next .at4 .ensures))
 
 returns-5 : tie.Need-returns-5
 unfolding columnAt operandsOf fromRegister oneAt
-returns-5 c = (rw (c .read3 .ensures, c .before .before .register3 .ensures, c .before .before .before .before .register2 .ensures, c .before .before .before .before .before .before .before .before .match .keys5) refl, rw (c .before .before .before .before .before .before .before .before .match .keys5) (c .before .before .before .before .before .before .at5 .ensures))
+returns-5 c =
+    let src : tie.After-register3 = c .before .before in
+    let dst : tie.After-register2 = src .before .before in
+    let next : tie.After-at5 = dst .before .before in
+    let column : tie.At-match-keys5 = next .before .before in
+    let is = column .match .keys5 in
+    (rw (c .read3 .ensures, src .register3 .ensures, dst .register2 .ensures, is) refl, rw is (next .at5 .ensures))
 
 returns-6 : tie.Need-returns-6
 unfolding columnAt operandsOf fromRegister oneAt
-returns-6 c = (rw (c .read4 .ensures, c .before .before .indirect2 .ensures, c .before .before .before .before .register4 .ensures, c .before .before .before .before .before .before .before .before .match .keys6) refl, rw (c .before .before .before .before .before .before .before .before .match .keys6) (c .before .before .before .before .before .before .at6 .ensures))
+returns-6 c =
+    let src : tie.After-indirect2 = c .before .before in
+    let dst : tie.After-register4 = src .before .before in
+    let next : tie.After-at6 = dst .before .before in
+    let column : tie.At-match-keys6 = next .before .before in
+    let is = column .match .keys6 in
+    (rw (c .read4 .ensures, src .indirect2 .ensures, dst .register4 .ensures, is) refl, rw is (next .at6 .ensures))
 
 returns-7 : tie.Need-returns-7
 unfolding columnAt operandsOf fromRegister oneAt
@@ -169,11 +193,23 @@ returns-8 c = (rw (c .indirect3 .ensures, c .before .before .before .before .mat
 
 returns-9 : tie.Need-returns-9
 unfolding columnAt operandsOf fromRegister oneAt
-returns-9 c = (rw (c .read5 .ensures, c .before .before .register6 .ensures, c .before .before .before .before .working4 .ensures, c .before .before .before .before .before .before .before .before .before .match .keys9) refl, rw (c .before .before .before .before .before .before .before .before .before .match .keys9) (c .before .before .before .before .before .before .before .at9 .ensures))
+returns-9 c =
+    let src : tie.After-register6 = c .before .before in
+    let dst : tie.After-working4 = src .before .before in
+    let next : tie.After-at9 = dst .before .before .before in
+    let column : tie.At-match-keys9 = next .before .before in
+    let is = column .match .keys9 in
+    (rw (c .read5 .ensures, src .register6 .ensures, dst .working4 .ensures, is) refl, rw is (next .at9 .ensures))
 
 returns-10 : tie.Need-returns-10
 unfolding columnAt operandsOf fromRegister oneAt
-returns-10 c = (rw (c .read6 .ensures, c .before .before .working5 .ensures, c .before .before .before .before .before .register7 .ensures, c .before .before .before .before .before .before .before .before .before .match .keys10) refl, rw (c .before .before .before .before .before .before .before .before .before .match .keys10) (c .before .before .before .before .before .before .before .at10 .ensures))
+returns-10 c =
+    let src : tie.After-working5 = c .before .before in
+    let dst : tie.After-register7 = src .before .before .before in
+    let next : tie.After-at10 = dst .before .before in
+    let column : tie.At-match-keys10 = next .before .before in
+    let is = column .match .keys10 in
+    (rw (c .read6 .ensures, src .working5 .ensures, dst .register7 .ensures, is) refl, rw is (next .at10 .ensures))
 
 returns-11 : tie.Need-returns-11
 unfolding columnAt operandsOf fromRegister oneAt
@@ -197,7 +233,12 @@ returns-15 c = (rw (c .working8 .ensures, c .before .before .before .before .bef
 
 returns-16 : tie.Need-returns-16
 unfolding columnAt operandsOf fromRegister oneAt
-returns-16 c = let e : lower (c .before .before .before .before .args .i .op) ≡ 15 = last 0 15 (lower (c .before .before .before .before .args .i .op)) (omega arith) (low-below (c .before .before .before .before)) (c .before .before .match .rest) in (rw e refl, rw e (c .at16 .ensures))
+returns-16 c =
+    let arm : tie.At-match-rest = c .before .before in
+    let begun : tie.Start = arm .before .before in
+    let low = lower (begun .args .i .op) in
+    let is : low ≡ 15 = last 0 15 low (omega arith) (low-below begun) (arm .match .rest) in
+    (rw is refl, rw is (c .at16 .ensures))
 
 pub operands-spec : {M : Type 1} → statement M
 operands-spec =
