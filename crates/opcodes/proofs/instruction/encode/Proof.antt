@@ -20,11 +20,29 @@ operand-requires-2 c κs = search needs
 
 returns : tie.Need-returns
 unfolding encodeOf
-returns c = let s = c .before .before .before .before .before in let own : c .before .before .before .before .is-defined .result && (eqb (c .before .before .operand .result) (s .args .first) && eqb (c .before .operand2 .result) (s .args .second)) ≡ true = c .if1 .taken in rw (← c .before .before .before .before .is-defined .ensures, ← c .before .before .before .length-of .ensures, ← c .before .before .operand .ensures, ← c .before .operand2 .ensures, own)
+returns c =
+    let second : tie.After-operand2 = c .before in
+    let first : tie.After-operand = second .before in
+    let size : tie.After-length-of = first .before in
+    let defined : tie.After-is-defined = size .before in
+    let begun : tie.Start = defined .before in
+    let own-first = eqb (first .operand .result) (begun .args .first) in
+    let own-second = eqb (second .operand2 .result) (begun .args .second) in
+    let own : defined .is-defined .result && (own-first && own-second) ≡ true = c .if1 .taken in
+    rw (← defined .is-defined .ensures, ← size .length-of .ensures, ← first .operand .ensures, ← second .operand2 .ensures, own)
 
 returns-2 : tie.Need-returns-2
 unfolding encodeOf
-returns-2 c = let s = c .before .before .before .before .before in let own : c .before .before .before .before .is-defined .result && (eqb (c .before .before .operand .result) (s .args .first) && eqb (c .before .operand2 .result) (s .args .second)) ≡ false = c .if1 .left in rw (← c .before .before .before .before .is-defined .ensures, ← c .before .before .before .length-of .ensures, ← c .before .before .operand .ensures, ← c .before .operand2 .ensures, own)
+returns-2 c =
+    let second : tie.After-operand2 = c .before in
+    let first : tie.After-operand = second .before in
+    let size : tie.After-length-of = first .before in
+    let defined : tie.After-is-defined = size .before in
+    let begun : tie.Start = defined .before in
+    let own-first = eqb (first .operand .result) (begun .args .first) in
+    let own-second = eqb (second .operand2 .result) (begun .args .second) in
+    let own : defined .is-defined .result && (own-first && own-second) ≡ false = c .if1 .left in
+    rw (← defined .is-defined .ensures, ← size .length-of .ensures, ← first .operand .ensures, ← second .operand2 .ensures, own)
 
 pub encode-spec : {M : Type 1} → statement M
 encode-spec =
