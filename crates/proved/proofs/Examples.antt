@@ -28,7 +28,7 @@ use Rattle.machine.specs.Registers.{readReg, writeReg}
 use Rattle.machine.specs.Addresses.{workingAt, registerAt, readPair, writePair}
 use Rattle.machine.specs.Memory.{programByte}
 use Rattle.machine.specs.Stack.{pushed, pushedInternal}
-use Rattle.machine.specs.Clock.{controlWith, controlOf, movingOf, enabling, countsAt, movedTo, writeTmr, seen, shown, cycleOf, spanOf}
+use Rattle.machine.specs.Clock.{Ran, controlWith, controlOf, movingOf, enabling, countsAt, movedTo, writeTmr, seen, shown, cycleOf, spanOf}
 use Rattle.machine.specs.Start.{resetPlaces, newOf, defaultOf}
 use Rattle.machine.specs.declared.Machine.{Machine}
 use Rattle.machine.proofs.Lens.{span-is}
@@ -58,7 +58,7 @@ module _ (divider pre0 t0 : ℕ) where
 
   ends-are : (n : ℕ) → endsIn divider pre0 t0 n ≡ cycles (settingOf (controlOf loaded)) n (movingOf loaded) .ends0
   unfolding endsIn shown
-  ends-are n = rw (span-is loaded long tmr-byte n)
+  ends-are n = ap (λ (r : Ran). r .ends0) (span-is loaded long tmr-byte n)
 
 pub examples-hold : T (all examples)
 unfolding examples
