@@ -4,7 +4,7 @@ use Rattle.interrupts.proofs.edges.compare.Tie as tie
 use Rattle.interrupts.specs.Edges.{comparedOf}
 use Rattle.interrupts.proofs.Steady.{steady}
 use Rattle.interrupts.specs.ForCode.{anyFell}
-use Rattle.lent.specs.View.{coreIn, machineIn}
+use Rattle.lent.specs.View.{machineIn}
 use borrow.Author.Tests.{not-true}
 use denote.Ref.{now}
 use mathlib.Core.Bool.{false}
@@ -20,8 +20,15 @@ set-last3-requires : tie.Need-set-last3-requires
 set-last3-requires c κs = search needs
 
 returns : tie.Need-returns
-returns c = let none : anyFell (coreIn (now (c .before .before .before .before .before .before .before .args .rest)) .last3) (c .before .before .before .before .before .before .before .args .given) ≡ false = rw (c .before .before .before .before .before .last3 .ensures) at (sym (c .before .before .before .before .any-fell .ensures) ∙ not-true _ (c .before .before .before .if1 .taken)) in
-    rw (c .set-last3 .ensures) (steady (machineIn (now (c .before .before .before .before .before .before .before .args .regs)) (now (c .before .before .before .before .before .before .before .args .rest))) (c .before .before .before .before .before .before .before .args .given) (c .before .before .before .before .before .before .before .pre .file .bytes 0xF1) none)
+returns c =
+    let test : tie.Then1 = c .before .before .before in
+    let asked : tie.After-any-fell = test .before in
+    let pins : tie.After-last3 = asked .before in
+    let begun : tie.Start = pins .before .before in
+    let given = begun .args .given in
+    let m = machineIn (now (begun .args .regs)) (now (begun .args .rest)) in
+    let none : anyFell (m .last3) given ≡ false = rw (pins .last3 .ensures) at (sym (asked .any-fell .ensures) ∙ not-true _ (test .if1 .taken)) in
+    rw (c .set-last3 .ensures) (steady m given (begun .pre .file .bytes 0xF1) none)
 
 moved-requires : tie.Need-moved-requires
 moved-requires c κs = search needs

@@ -20,15 +20,33 @@ fell-requires : tie.Need-fell-requires
 fell-requires c κs = search needs
 
 edge-requires : tie.Need-edge-requires
-edge-requires c κs = let l = c .before .before .before .before .before .before .before .pre .moving in rw (c .before .before .latched-by .ensures, c .before .before .before .before .moving-of .ensures) (record { divider-high = l .divider-high; counting0 = l .counting0; counting1 = l .counting1; irq-high = edges-latch-legal _ _ _ (l .irq-high) })
+edge-requires c κs =
+    let latched : tie.After-latched-by = c .before .before in
+    let now : tie.After-moving-of = latched .before .before in
+    let begun : tie.Start = now .before .before .before in
+    let l = begun .pre .moving in
+    rw (latched .latched-by .ensures, now .moving-of .ensures)
+    (record { divider-high = l .divider-high; counting0 = l .counting0; counting1 = l .counting1; irq-high = edges-latch-legal _ _ _ (l .irq-high) })
 
 returns : tie.Need-returns
 unfolding movedByEdges
-returns c = rw (c .edge .ensures, c .before .before .before .latched-by .ensures, c .before .before .before .before .before .moving-of .ensures, c .before .before .before .before .before .before .control-of .ensures, ← c .before .before .before .before .before .before .before .last3 .ensures, ← c .before .before .fell .ensures, c .before .if1 .taken)
+returns c =
+    let p31 : tie.Then1 = c .before in
+    let fallen : tie.After-fell = p31 .before in
+    let latched : tie.After-latched-by = fallen .before in
+    let now : tie.After-moving-of = latched .before .before in
+    let control : tie.After-control-of = now .before in
+    let pins : tie.After-last3 = control .before in
+    rw (c .edge .ensures, latched .latched-by .ensures, now .moving-of .ensures, control .control-of .ensures, ← pins .last3 .ensures, ← fallen .fell .ensures, p31 .if1 .taken)
 
 returns-2 : tie.Need-returns-2
 unfolding movedByEdges
-returns-2 c = rw (c .before .before .latched-by .ensures, c .before .before .before .before .moving-of .ensures, ← c .before .before .before .before .before .before .last3 .ensures, ← c .before .fell .ensures, c .if1 .left)
+returns-2 c =
+    let fallen : tie.After-fell = c .before in
+    let latched : tie.After-latched-by = fallen .before in
+    let now : tie.After-moving-of = latched .before .before in
+    let pins : tie.After-last3 = now .before .before in
+    rw (latched .latched-by .ensures, now .moving-of .ensures, ← pins .last3 .ensures, ← fallen .fell .ensures, c .if1 .left)
 
 pub moved-spec : {M : Type 1} → statement M
 moved-spec =

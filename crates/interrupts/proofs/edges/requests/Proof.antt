@@ -5,7 +5,7 @@ use Rattle.interrupts.specs.Edges.{Comparison}
 use Rattle.interrupts.proofs.Steady.{steady, requests-seen}
 use Rattle.interrupts.specs.ForCode.{anyFell}
 use Rattle.machine.specs.State.{held, withLast3}
-use Rattle.lent.specs.View.{coreIn, machineIn}
+use Rattle.lent.specs.View.{machineIn}
 use borrow.Author.Tests.{not-true}
 use denote.Ref.{now}
 use mathlib.Core.Bool.{false}
@@ -22,14 +22,26 @@ held-requires c κs = search needs
 
 returns : tie.Need-returns
 unfolding withLast3
-returns c = let none : anyFell (coreIn (now (c .before .before .before .before .args .rest)) .last3) (c .before .before .before .before .args .given) ≡ false = rw (c .before .before .before .last3 .ensures) at (sym (c .before .before .any-fell .ensures) ∙ not-true _ (c .before .if1 .taken)) in
-    rw (c .held .ensures) (ap (λ (x : Comparison). held (x .machine) 0xFA) (steady (machineIn (now (c .before .before .before .before .args .regs)) (now (c .before .before .before .before .args .rest))) (c .before .before .before .before .args .given) (c .before .before .before .before .pre .file .bytes 0xF1) none))
+returns c =
+    let test : tie.Then1 = c .before in
+    let asked : tie.After-any-fell = test .before in
+    let pins : tie.After-last3 = asked .before in
+    let begun : tie.Start = pins .before in
+    let given = begun .args .given in
+    let m = machineIn (now (begun .args .regs)) (now (begun .args .rest)) in
+    let none : anyFell (m .last3) given ≡ false = rw (pins .last3 .ensures) at (sym (asked .any-fell .ensures) ∙ not-true _ (test .if1 .taken)) in
+    rw (c .held .ensures) (ap (λ (x : Comparison). held (x .machine) 0xFA) (steady m given (begun .pre .file .bytes 0xF1) none))
 
 moved-requires : tie.Need-moved-requires
 moved-requires c κs = search needs
 
 returns-2 : tie.Need-returns-2
-returns-2 c = rw (c .before .before .moved .ensures) (sym (requests-seen (machineIn (now (c .before .before .before .before .before .before .args .regs)) (now (c .before .before .before .before .before .before .args .rest))) (c .before .before .before .before .before .before .args .given) (c .before .before .before .before .before .before .pre .file .long) (c .before .before .before .before .before .before .pre .file .bytes 0xF1)))
+returns-2 c =
+    let edges : tie.After-moved = c .before .before in
+    let begun : tie.Start = edges .before .before .before .before in
+    let m = machineIn (now (begun .args .regs)) (now (begun .args .rest)) in
+    let file = begun .pre .file in
+    rw (edges .moved .ensures) (sym (requests-seen m (begun .args .given) (file .long) (file .bytes 0xF1)))
 
 pub requests-spec : {M : Type 1} → statement M
 requests-spec =

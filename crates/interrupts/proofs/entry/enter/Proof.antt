@@ -42,7 +42,20 @@ same-length c = search needs
 
 returns : tie.Need-returns
 unfolding placed
-returns c = rw (c .set-pc .ensures, c .before .before .before .interrupts .ensures, c .before .before .before .before .before .before .place .ensures, c .before .before .before .before .before .before .before .before .cleared .ensures, c .before .before .before .before .before .before .before .before .before .held .ensures, c .before .before .before .before .before .before .before .before .before .before .before .before .before .before .before .before .before .vector .ensures) (entered-is _ _ _ _ _ (rw (c .before .before .before .before .before .before .before .before .before .before .before .before .before .before .before .before .before .before .low-byte .ensures, c .before .before .before .before .before .before .before .before .before .before .before .before .before .before .before .before .before .before .before .high-byte .ensures, c .before .before .before .before .before .before .before .before .before .before .before .before .before .before .before .before .before .before .before .before .flags .ensures, c .before .before .before .before .before .before .before .before .before .before .before .before .before .before .before .before .before .before .before .before .before .before .before .pc .ensures) at (c .before .before .before .before .before .before .before .before .before .before .before .before .before .push .ensures)))
+returns c =
+    let off : tie.After-interrupts = c .before .before .before in
+    let acknowledged : tie.After-place = off .before .before .before in
+    let without : tie.After-cleared = acknowledged .before .before in
+    let irq : tie.After-held = without .before in
+    let pushed : tie.After-push = irq .before .before .before .before in
+    let to : tie.After-vector = pushed .before .before .before .before in
+    let low : tie.After-low-byte = to .before in
+    let high : tie.After-high-byte = low .before in
+    let flags : tie.After-flags = high .before in
+    let was : tie.After-pc = flags .before .before .before in
+    let left = rw (low .low-byte .ensures, high .high-byte .ensures, flags .flags .ensures, was .pc .ensures) at (pushed .push .ensures) in
+    rw (c .set-pc .ensures, off .interrupts .ensures, acknowledged .place .ensures, without .cleared .ensures, irq .held .ensures, to .vector .ensures)
+    (entered-is _ _ _ _ _ left)
 
 pub enter-spec : {M : Type 1} → statement M
 enter-spec =

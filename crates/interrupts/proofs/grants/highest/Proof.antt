@@ -1,9 +1,23 @@
 use borrow.Author.Needs.{needs}
 use Rattle.interrupts.proofs.grants.highest.Statement.{statement}
 use Rattle.interrupts.proofs.grants.highest.Tie as tie
-use Rattle.interrupts.specs.Grants.{ordered, priorities, firstStanding}
+use Rattle.interrupts.specs.Grants.{ordered, priorities, firstStanding, groupA, groupB, groupC, groupOrder}
 use Rattle.interrupts.proofs.Orders.{first-of-three, unused}
 use mathlib.Core.Path.{_≡_, sym}
+
+-- the highest of each group, and the groups' order
+module _ (s : tie.After-group-order) where
+  group-a-is : s .before .before .before .of-group-a .result ≡ firstStanding (groupA (s .before .before .before .before .args .ipr)) (s .before .before .before .before .args .standing)
+  group-a-is = s .before .before .before .of-group-a .ensures
+
+  group-b-is : s .before .before .of-group-b .result ≡ firstStanding (groupB (s .before .before .before .before .args .ipr)) (s .before .before .before .before .args .standing)
+  group-b-is = s .before .before .of-group-b .ensures
+
+  group-c-is : s .before .of-group-c .result ≡ firstStanding (groupC (s .before .before .before .before .args .ipr)) (s .before .before .before .before .args .standing)
+  group-c-is = s .before .of-group-c .ensures
+
+  order-is : groupOrder (s .before .before .before .before .args .ipr) ≡ s .group-order .result
+  order-is = sym (s .group-order .ensures .0)
 
 of-group-a-requires : tie.Need-of-group-a-requires
 of-group-a-requires c κs = search needs
@@ -37,27 +51,45 @@ of-three-requires-6 c κs = search needs
 
 returns : tie.Need-returns
 unfolding priorities ordered
-returns c = let order : c .before .before .group-order .result ≡ 1 = c .before .match .keys1 in rw (c .of-three .ensures, c .before .before .before .before .before .of-group-a .ensures, c .before .before .before .before .of-group-b .ensures, c .before .before .before .of-group-c .ensures, ← c .before .before .group-order .ensures .0, order) (sym (first-of-three _ _ _ _))
+returns c =
+    let order : tie.At-match-keys1 = c .before in
+    let groups : tie.After-group-order = order .before in
+    rw (c .of-three .ensures, group-a-is groups, group-b-is groups, group-c-is groups, order-is groups, order .match .keys1) (sym (first-of-three _ _ _ _))
 
 returns-2 : tie.Need-returns-2
 unfolding priorities ordered
-returns-2 c = let order : c .before .before .group-order .result ≡ 2 = c .before .match .keys2 in rw (c .of-three2 .ensures, c .before .before .before .before .before .of-group-a .ensures, c .before .before .before .before .of-group-b .ensures, c .before .before .before .of-group-c .ensures, ← c .before .before .group-order .ensures .0, order) (sym (first-of-three _ _ _ _))
+returns-2 c =
+    let order : tie.At-match-keys2 = c .before in
+    let groups : tie.After-group-order = order .before in
+    rw (c .of-three2 .ensures, group-a-is groups, group-b-is groups, group-c-is groups, order-is groups, order .match .keys2) (sym (first-of-three _ _ _ _))
 
 returns-3 : tie.Need-returns-3
 unfolding priorities ordered
-returns-3 c = let order : c .before .before .group-order .result ≡ 3 = c .before .match .keys3 in rw (c .of-three3 .ensures, c .before .before .before .before .before .of-group-a .ensures, c .before .before .before .before .of-group-b .ensures, c .before .before .before .of-group-c .ensures, ← c .before .before .group-order .ensures .0, order) (sym (first-of-three _ _ _ _))
+returns-3 c =
+    let order : tie.At-match-keys3 = c .before in
+    let groups : tie.After-group-order = order .before in
+    rw (c .of-three3 .ensures, group-a-is groups, group-b-is groups, group-c-is groups, order-is groups, order .match .keys3) (sym (first-of-three _ _ _ _))
 
 returns-4 : tie.Need-returns-4
 unfolding priorities ordered
-returns-4 c = let order : c .before .before .group-order .result ≡ 4 = c .before .match .keys4 in rw (c .of-three4 .ensures, c .before .before .before .before .before .of-group-a .ensures, c .before .before .before .before .of-group-b .ensures, c .before .before .before .of-group-c .ensures, ← c .before .before .group-order .ensures .0, order) (sym (first-of-three _ _ _ _))
+returns-4 c =
+    let order : tie.At-match-keys4 = c .before in
+    let groups : tie.After-group-order = order .before in
+    rw (c .of-three4 .ensures, group-a-is groups, group-b-is groups, group-c-is groups, order-is groups, order .match .keys4) (sym (first-of-three _ _ _ _))
 
 returns-5 : tie.Need-returns-5
 unfolding priorities ordered
-returns-5 c = let order : c .before .before .group-order .result ≡ 5 = c .before .match .keys5 in rw (c .of-three5 .ensures, c .before .before .before .before .before .of-group-a .ensures, c .before .before .before .before .of-group-b .ensures, c .before .before .before .of-group-c .ensures, ← c .before .before .group-order .ensures .0, order) (sym (first-of-three _ _ _ _))
+returns-5 c =
+    let order : tie.At-match-keys5 = c .before in
+    let groups : tie.After-group-order = order .before in
+    rw (c .of-three5 .ensures, group-a-is groups, group-b-is groups, group-c-is groups, order-is groups, order .match .keys5) (sym (first-of-three _ _ _ _))
 
 returns-6 : tie.Need-returns-6
 unfolding priorities ordered
-returns-6 c = let order : c .before .before .group-order .result ≡ 6 = c .before .match .keys6 in rw (c .of-three6 .ensures, c .before .before .before .before .before .of-group-a .ensures, c .before .before .before .before .of-group-b .ensures, c .before .before .before .of-group-c .ensures, ← c .before .before .group-order .ensures .0, order) (sym (first-of-three _ _ _ _))
+returns-6 c =
+    let order : tie.At-match-keys6 = c .before in
+    let groups : tie.After-group-order = order .before in
+    rw (c .of-three6 .ensures, group-a-is groups, group-b-is groups, group-c-is groups, order-is groups, order .match .keys6) (sym (first-of-three _ _ _ _))
 
 returns-7 : tie.Need-returns-7
 unfolding priorities firstStanding
