@@ -26,7 +26,14 @@ same-length c = search needs
 
 returns : tie.Need-returns
 unfolding called
-returns c = let e = rw (c .before .before .before .before .before .before .before .before .before .before .high-byte .ensures, c .before .before .before .before .before .before .before .before .before .low-byte .ensures, c .before .before .before .before .before .before .before .before .before .before .before .pc .ensures) at (c .before .before .before .before .before .push .ensures) in rw (c .set-pc .ensures) (ap (λ (l : Left). left (withPc (l .machine) (c .before .before .before .before .before .before .before .before .before .before .before .before .before .before .args .to)) (l .memory)) e)
+returns c =
+    let pushed : tie.After-push = c .before .before .before .before .before in
+    let low : tie.After-low-byte = pushed .before .before .before .before in
+    let high : tie.After-high-byte = low .before in
+    let was : tie.After-pc = high .before in
+    let begun : tie.Start = was .before .before .before in
+    let stack = rw (high .high-byte .ensures, low .low-byte .ensures, was .pc .ensures) at (pushed .push .ensures) in
+    rw (c .set-pc .ensures) (ap (λ (l : Left). left (withPc (l .machine) (begun .args .to)) (l .memory)) stack)
 
 pub call-spec : {M : Type 1} → statement M
 call-spec =

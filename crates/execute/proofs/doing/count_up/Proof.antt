@@ -23,7 +23,13 @@ write-pair-requires c κs = search needs
 
 returns : tie.Need-returns
 unfolding pairCountedUp countedUp
-returns c = rw (c .write-pair .ensures, c .before .before .before .plus .ensures, c .before .before .before .before .read-pair .ensures, c .before .before .before .before .before .before .before .write .ensures, c .before .before .before .before .before .before .before .before .before .before .wrapping-add-u8 .ensures, c .before .before .before .before .before .before .before .before .before .before .before .read .ensures)
+returns c =
+    let more : tie.After-plus = c .before .before .before in
+    let pair : tie.After-read-pair = more .before in
+    let written : tie.After-write = pair .before .before .before in
+    let one-more : tie.After-wrapping-add-u8 = written .before .before .before in
+    let was : tie.After-read = one-more .before in
+    rw (c .write-pair .ensures, more .plus .ensures, pair .read-pair .ensures, written .write .ensures, one-more .wrapping-add-u8 .ensures, was .read .ensures)
 
 pub count-up-spec : {M : Type 1} → statement M
 count-up-spec =
