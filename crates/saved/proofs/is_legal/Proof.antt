@@ -56,7 +56,11 @@ bits-clear-requires c κs = search needs
 
 returns : tie.Need-returns
 unfolding legalOf
-returns c = rw (c .bits-clear .ensures, c .before .before .before .before .holes-empty .ensures, c .before .before .before .before .before .own-fit .ensures, c .before .before .before .before .before .before .before .before .before .before .counts-fit .ensures)
+returns c =
+    let holes : tie.After-holes-empty = c .before .before .before .before in
+    let own : tie.After-own-fit = holes .before in
+    let counts : tie.After-counts-fit = own .before .before .before .before .before in
+    rw (c .bits-clear .ensures, holes .holes-empty .ensures, own .own-fit .ensures, counts .counts-fit .ensures)
 
 pub is-legal-spec : {M : Type 1} → statement M
 is-legal-spec =

@@ -53,7 +53,13 @@ shared-slice-read-t22 c = search needs
 
 returns : tie.Need-returns
 unfolding machineOf
-returns c = rw (c .before .before .before .before .timer-of2 .ensures, c .before .before .before .before .before .before .before .timer-of .ensures, c .before .before .before .before .before .before .before .before .before .before .wide .ensures, c .before .before .before .before .before .before .before .before .before .before .before .before .word .ensures, c .before .before .before .before .before .before .before .before .before .before .before .before .before .before .before .file-of .ensures)
+returns c =
+    let t1 : tie.After-timer-of2 = c .before .before .before .before in
+    let t0 : tie.After-timer-of = t1 .before .before .before in
+    let divider : tie.After-wide = t0 .before .before .before in
+    let pc : tie.After-word = divider .before .before in
+    let file : tie.After-file-of = pc .before .before .before in
+    rw (t1 .timer-of2 .ensures, t0 .timer-of .ensures, divider .wide .ensures, pc .word .ensures, file .file-of .ensures)
 
 pub machine-of-spec : {M : Type 1} → statement M
 machine-of-spec =

@@ -29,7 +29,15 @@ bits-if-requires c κs = search needs
 
 returns : tie.Need-returns
 unfolding restOf
-returns c = simp (c .bits-if .ensures .0, c .before .low5 .ensures, c .before .before .low4 .ensures, c .before .before .before .low3 .ensures, c .before .before .before .before .low2 .ensures, c .before .before .before .before .before .low .ensures, c .before .before .before .before .before .before .low-byte .ensures, c .before .before .before .before .before .before .before .high-byte .ensures)
+returns c =
+    let counter1 : tie.After-low5 = c .before in
+    let prescaler1 : tie.After-low4 = counter1 .before in
+    let counter0 : tie.After-low3 = prescaler1 .before in
+    let prescaler0 : tie.After-low2 = counter0 .before in
+    let divider : tie.After-low = prescaler0 .before in
+    let pc-low : tie.After-low-byte = divider .before in
+    let pc-high : tie.After-high-byte = pc-low .before in
+    simp (c .bits-if .ensures .0, counter1 .low5 .ensures, prescaler1 .low4 .ensures, counter0 .low3 .ensures, prescaler0 .low2 .ensures, divider .low .ensures, pc-low .low-byte .ensures, pc-high .high-byte .ensures)
 
 pub rest-of-spec : {M : Type 1} → statement M
 rest-of-spec =

@@ -28,7 +28,9 @@ slice-aggregate-copy : tie.Need-slice-aggregate-copy
 slice-aggregate-copy c = search needs
 
 copy-requires : tie.Need-copy-requires
-copy-requires c κs = length-take-le 256 (c .before .before .before .before .before .args .saved .now) (omega (arith, c .before .before .before .before .before .pre)) ∙ sym (long (c .before .before .before .before .before))
+copy-requires c κs =
+    let begun : tie.Start = c .before .before .before .before .before in
+    length-take-le 256 (begun .args .saved .now) (omega (arith, begun .pre)) ∙ sym (long begun)
 
 sub-copy-2 : tie.Need-sub-copy-2
 sub-copy-2 c = search needs
@@ -50,7 +52,14 @@ same-length c = search needs
 
 returns : tie.Need-returns
 unfolding savedOf
-returns c = rw (c .before .before .copy2 .ensures, c .before .before .before .before .before .before .before .before .before .before .rest-of .ensures) (put-behind 256 (c .before .before .before .before .before .before .before .before .before .before .before .before .before .args .m .regs) (c .before .before .before .before .before .before .before .copy .last .0) (postOf 0 256 (c .before .before .before .before .before .before .before .before .before .before .before .before .before .args .saved .now)) (restOf (c .before .before .before .before .before .before .before .before .before .before .before .before .before .args .m)) (long (c .before .before .before .before .before .before .before .before .before .before .before .before .before)) (c .before .before .before .before .before .before .before .copy .ensures))
+returns c =
+    let whole : tie.After-copy2 = c .before .before in
+    let file : tie.After-copy = whole .before .before .before .before .before in
+    let rest : tie.After-rest-of = file .before .before .before in
+    let begun : tie.Start = rest .before .before .before in
+    let m = begun .args .m in
+    rw (whole .copy2 .ensures, rest .rest-of .ensures)
+    (put-behind 256 (m .regs) (file .copy .last .0) (postOf 0 256 (begun .args .saved .now)) (restOf m) (long begun) (file .copy .ensures))
 
 pub save-spec : {M : Type 1} → statement M
 save-spec =
