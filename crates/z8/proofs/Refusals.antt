@@ -7,6 +7,8 @@ use lib.ListN.{length}
 use borrow.Author.Tests.{eqb-true, eq-eqb, ne-eqb}
 use Rattle.word.specs.Choose.{pick}
 use Rattle.word.proofs.Computed.{by-test}
+use Rattle.machine.specs.Legal.{Legal}
+use Rattle.machine.specs.declared.Machine.{Machine}
 use Rattle.saved.specs.Saved.{machineOf, firstOf, refusalOf}
 use Rattle.saved.specs.declared.Loaded.{Loaded}
 use Rattle.saved.proofs.RoundTrip.{loads-268}
@@ -65,3 +67,21 @@ module _ (s : List ℕ) (r : Loaded) (e : r ≡ loadOf s) where
       where
         loaded : (x : ℕ) → admittedOf x image memory ≡ 0 → x ≡ 0
         loaded x = by-test (λ (y : ℕ). y ≡ 0 → x ≡ 0) (eqb x 0) (λ t h. eqb-true x 0 t) (λ t h. h)
+
+-- what is known of a machine that was loaded and admitted; where one test more is made, it is the first that applies
+pub record Admitted (s image memory : List ℕ) (m : Machine) : Type 0 where
+  pub long : length s ≡ 268
+  pub legal : Legal m
+  pub is : m ≡ machineOf s
+  pub next : (n : ℕ) → firstOf (refusalOf s ∷ imageRefusal image ∷ memoryRefusal memory ∷ n ∷ []) ≡ n
+
+pub admitted-is : (s image memory : List ℕ) (r : Loaded) → (r ≡ loadOf s) × (r .refusal ≡ 0 → Legal (r .machine)) → (n : ℕ) → n ≡ admittedOf (r .refusal) image memory
+    → n ≡ 0 → Admitted s image memory (r .machine)
+admitted-is s image memory r l n a z =
+    let loaded : r .refusal ≡ 0 = admitted-loaded s r (l .0) image memory n a z in
+    record {
+      long = load-268 s r (l .0) loaded;
+      legal = l .1 loaded;
+      is = load-machine s r (l .0) loaded;
+      next = λ next. admitted-next s r (l .0) image memory n a next z;
+    }

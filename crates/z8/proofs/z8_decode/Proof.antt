@@ -30,11 +30,23 @@ enum-known-d-2 c = search needs
 
 returns-2 : tie.Need-returns-2
 unfolding decodeCallOf
-returns-2 c = let fits : ltb 65536 (length (now (c .before .before .before .before .before .before .before .args .image))) ≡ false = le-ltb _ _ (c .before .before .before .before .before .if1 .left) in rw (fits, ← c .before .before .before .before .fetch .ensures, ← c .before .before .before .decode .ensures, c .before .d .given .1)
+returns-2 c =
+    let decoded : tie.After-decode = c .before .before .before in
+    let bytes : tie.After-fetch = decoded .before in
+    let sized : tie.Else1 = bytes .before in
+    let begun : tie.Start = sized .before .before in
+    let fits : ltb 65536 (length (now (begun .args .image))) ≡ false = le-ltb _ _ (sized .if1 .left) in
+    rw (fits, ← bytes .fetch .ensures, ← decoded .decode .ensures, c .before .d .given .1)
 
 returns-3 : tie.Need-returns-3
 unfolding decodeCallOf
-returns-3 c = let fits : ltb 65536 (length (now (c .before .before .before .before .before .before .before .args .image))) ≡ false = le-ltb _ _ (c .before .before .before .before .before .if1 .left) in rw (fits, ← c .before .before .before .before .fetch .ensures, ← c .before .before .before .decode .ensures, c .before .d2 .given .1)
+returns-3 c =
+    let decoded : tie.After-decode = c .before .before .before in
+    let bytes : tie.After-fetch = decoded .before in
+    let sized : tie.Else1 = bytes .before in
+    let begun : tie.Start = sized .before .before in
+    let fits : ltb 65536 (length (now (begun .args .image))) ≡ false = le-ltb _ _ (sized .if1 .left) in
+    rw (fits, ← bytes .fetch .ensures, ← decoded .decode .ensures, c .before .d2 .given .1)
 
 pub z8-decode-spec : {M : Type 1} → statement M
 z8-decode-spec =

@@ -22,7 +22,15 @@ cast-result c = search needs
 
 returns-2 : tie.Need-returns-2
 unfolding makeOf
-returns-2 c = let long : eqb (length (now (c .before .before .before .before .before .before .args .saved))) 268 ≡ true = eq-eqb _ _ (c .before .before .before .before .if1 .left) in let refused : eqb (c .before .before .before .make .result .refusal) 0 ≡ false = ne-eqb _ _ (c .before .if2 .taken) in let made : c .before .before .before .make .result ≡ madeOf (c .before .before .before .before .before .before .args .kind) (c .before .before .before .before .before .before .args .cost) = c .before .before .before .make .ensures in rw (long, ← made, refused, refused)
+returns-2 c =
+    let test : tie.Then2 = c .before in
+    let done : tie.After-make = test .before .before in
+    let sized : tie.Else1 = done .before in
+    let begun : tie.Start = sized .before .before in
+    let long : eqb (length (now (begun .args .saved))) 268 ≡ true = eq-eqb _ _ (sized .if1 .left) in
+    let refused : eqb (done .make .result .refusal) 0 ≡ false = ne-eqb _ _ (test .if2 .taken) in
+    let made : done .make .result ≡ madeOf (begun .args .kind) (begun .args .cost) = done .make .ensures in
+    rw (long, ← made, refused, refused)
 
 save-requires : tie.Need-save-requires
 save-requires c κs = search needs
@@ -32,7 +40,16 @@ same-length c = search needs
 
 returns-3 : tie.Need-returns-3
 unfolding makeOf
-returns-3 c = let long : eqb (length (now (c .before .before .before .before .before .before .before .before .before .before .args .saved))) 268 ≡ true = eq-eqb _ _ (c .before .before .before .before .before .before .before .before .if1 .left) in let made : c .before .before .before .before .before .before .before .make .result ≡ madeOf (c .before .before .before .before .before .before .before .before .before .before .args .kind) (c .before .before .before .before .before .before .before .before .before .before .args .cost) = c .before .before .before .before .before .before .before .make .ensures in rw (c .before .before .save .ensures, long, ← made, eq-eqb _ _ (c .before .before .before .before .before .if2 .left))
+returns-3 c =
+    let saved : tie.After-save = c .before .before in
+    let test : tie.Else2 = saved .before .before .before in
+    let done : tie.After-make = test .before .before in
+    let sized : tie.Else1 = done .before in
+    let begun : tie.Start = sized .before .before in
+    let long : eqb (length (now (begun .args .saved))) 268 ≡ true = eq-eqb _ _ (sized .if1 .left) in
+    let accepted : eqb (done .make .result .refusal) 0 ≡ true = eq-eqb _ _ (test .if2 .left) in
+    let made : done .make .result ≡ madeOf (begun .args .kind) (begun .args .cost) = done .make .ensures in
+    rw (saved .save .ensures, long, ← made, accepted)
 
 pub z8-make-spec : {M : Type 1} → statement M
 z8-make-spec =

@@ -24,7 +24,13 @@ same-length c = search needs
 
 returns-2 : tie.Need-returns-2
 unfolding makeDefaultOf
-returns-2 c = let long : eqb (length (now (c .before .before .before .before .before .before .before .args .saved))) 268 ≡ true = eq-eqb _ _ (c .before .before .before .before .before .if1 .left) in rw (c .before .before .save .ensures, c .before .before .before .before .default .ensures, long)
+returns-2 c =
+    let saved : tie.After-save = c .before .before in
+    let made : tie.After-default = saved .before .before in
+    let sized : tie.Else1 = made .before in
+    let begun : tie.Start = sized .before .before in
+    let long : eqb (length (now (begun .args .saved))) 268 ≡ true = eq-eqb _ _ (sized .if1 .left) in
+    rw (saved .save .ensures, made .default .ensures, long)
 
 pub z8-make-default-spec : {M : Type 1} → statement M
 z8-make-default-spec =

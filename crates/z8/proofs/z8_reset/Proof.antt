@@ -33,7 +33,16 @@ same-length-2 c = search needs
 
 returns-2 : tie.Need-returns-2
 unfolding resetCallOf
-returns-2 c = ap (λ (x : List ℕ). answer 0 x) (c .before .before .save .ensures ∙ ap savedOf (c .before .before .before .before .reset .ensures ∙ ap resetOf (load-machine _ _ (c .before .before .before .before .before .before .before .before .load .ensures .0) (c .before .before .before .before .before .before .if1 .left)))) ∙ is-done _ _ _ (sym (load-refuses _ _ (c .before .before .before .before .before .before .before .before .load .ensures .0)) ∙ c .before .before .before .before .before .before .if1 .left)
+returns-2 c =
+    let saved : tie.After-save = c .before .before in
+    let done : tie.After-reset = saved .before .before in
+    let accepted : tie.Else1 = done .before .before in
+    let load : tie.After-load = accepted .before .before in
+    let refusal = accepted .if1 .left in
+    let machine-is = load-machine _ _ (load .load .ensures .0) refusal in
+    let left = saved .save .ensures ∙ ap savedOf (done .reset .ensures ∙ ap resetOf machine-is) in
+    let none = sym (load-refuses _ _ (load .load .ensures .0)) ∙ refusal in
+    ap (λ (x : List ℕ). answer 0 x) left ∙ is-done _ _ _ none
 
 pub z8-reset-spec : {M : Type 1} → statement M
 z8-reset-spec =

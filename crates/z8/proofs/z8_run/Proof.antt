@@ -6,10 +6,28 @@ use borrow.Author.Tests.{lt-ltb, le-ltb}
 use native.Mathlib.Omega.{arith}
 use denote.Ref.{now}
 use Rattle.machine.specs.declared.Machine.{Machine}
-use Rattle.z8.proofs.Refusals.{is-refused, is-done, load-268, load-machine, admitted-next, admitted-loaded}
+use Rattle.machine.specs.declared.Pins.{Pins}
+use Rattle.z8.proofs.Refusals.{is-refused, is-done, Admitted, admitted-is}
 use Rattle.z8.proofs.Ways.{left-is, number-is, no-run}
 use Rattle.z8.specs.Calls.{answer, Lent, runCallOf, pinsGiven}
 use Rattle.step.specs.Run.{budgetRefusal, runOf}
+
+abbrev pins : tie.Start → Pins
+pins s = pinsGiven (s .args .pins0) (s .args .pins1) (s .args .pins2) (s .args .pins3)
+
+-- past the first refusals
+module _ (s : tie.Else1) where
+  abbrev asked : tie.After-admitted
+  asked = s .before
+
+  abbrev load : tie.After-load
+  load = asked .before .before
+
+  abbrev start : tie.Start
+  start = load .before .before .before .before .before
+
+  known : Admitted (now (start .args .saved)) (now (start .args .image)) (now (start .args .memory)) (load .load .result .machine)
+  known = admitted-is _ _ _ _ (load .load .ensures) _ (asked .admitted .ensures) (s .if1 .left)
 
 load-requires : tie.Need-load-requires
 load-requires c κs = search needs
@@ -34,13 +52,21 @@ same-length-4 c = search needs
 
 returns-2 : tie.Need-returns-2
 unfolding runCallOf
-returns-2 c = let over : budgetRefusal (c .before .before .before .before .before .before .before .before .before .args .budget) ≡ 4 = rw (lt-ltb 1000000 (c .before .before .before .before .before .before .before .before .before .args .budget) (c .if2 .taken)) in is-refused _ _ _ 4 (admitted-next _ _ (c .before .before .before .before .load .ensures .0) _ _ _ (c .before .before .admitted .ensures) _ (c .before .if1 .left) ∙ over) (λ e. omega arith)
+returns-2 c =
+    let admitted : tie.Else1 = c .before in
+    let begun = start admitted in
+    let over : budgetRefusal (begun .args .budget) ≡ 4 = rw (lt-ltb 1000000 (begun .args .budget) (c .if2 .taken)) in
+    is-refused _ _ _ 4 (known admitted .next _ ∙ over) (λ e. omega arith)
 
 run-requires : tie.Need-run-requires
-run-requires c κs = c .before .before .before .before .before .before .load .ensures .1 (admitted-loaded _ _ (c .before .before .before .before .before .before .load .ensures .0) _ _ _ (c .before .before .before .before .admitted .ensures) (c .before .before .before .if1 .left))
+run-requires c κs =
+    let admitted : tie.Else1 = c .before .before .before in
+    known admitted .legal
 
 save-requires : tie.Need-save-requires
-save-requires c κs = load-268 _ _ (c .before .before .before .before .before .before .before .before .before .before .before .load .ensures .0) (admitted-loaded _ _ (c .before .before .before .before .before .before .before .before .before .before .before .load .ensures .0) _ _ _ (c .before .before .before .before .before .before .before .before .before .admitted .ensures) (c .before .before .before .before .before .before .before .before .if1 .left))
+save-requires c κs =
+    let admitted : tie.Else1 = c .before .before .before .before .before .before .before .before in
+    known admitted .long
 
 cast-result : tie.Need-cast-result
 cast-result c = search needs
@@ -53,7 +79,19 @@ same-length-6 c = search needs
 
 returns-3 : tie.Need-returns-3
 unfolding runCallOf
-returns-3 c = let within : budgetRefusal (c .before .before .before .before .before .before .before .before .before .before .before .before .before .before .before .before .before .before .before .before .args .budget) ≡ 0 = rw (le-ltb 1000000 (c .before .before .before .before .before .before .before .before .before .before .before .before .before .before .before .before .before .before .before .before .args .budget) (c .before .before .before .before .before .before .before .before .before .before .before .if2 .left)) in ap (λ (x : Lent). answer (c .before .before .before .before .before .before .before .before .run .result .refusal) x) (left-is _ _ _ _ (c .before .before .before .before .before .before .before .before .run .ensures ∙ ap (λ (m : Machine). runOf (pinsGiven (c .before .before .before .before .before .before .before .before .before .before .before .before .before .before .before .before .before .before .before .before .args .pins0) (c .before .before .before .before .before .before .before .before .before .before .before .before .before .before .before .before .before .before .before .before .args .pins1) (c .before .before .before .before .before .before .before .before .before .before .before .before .before .before .before .before .before .before .before .before .args .pins2) (c .before .before .before .before .before .before .before .before .before .before .before .before .before .before .before .before .before .before .before .before .args .pins3)) (now (c .before .before .before .before .before .before .before .before .before .before .before .before .before .before .before .before .before .before .before .before .args .image)) (now (c .before .before .before .before .before .before .before .before .before .before .before .before .before .before .before .before .before .before .before .before .args .memory)) m (c .before .before .before .before .before .before .before .before .before .before .before .before .before .before .before .before .before .before .before .before .args .budget)) (load-machine _ _ (c .before .before .before .before .before .before .before .before .before .before .before .before .before .before .before .load .ensures .0) (admitted-loaded _ _ (c .before .before .before .before .before .before .before .before .before .before .before .before .before .before .before .load .ensures .0) _ _ _ (c .before .before .before .before .before .before .before .before .before .before .before .before .before .admitted .ensures) (c .before .before .before .before .before .before .before .before .before .before .before .before .if1 .left)))) (c .before .before .before .save .ensures)) ∙ rw (number-is _ _ _ (c .before .before .before .before .before .before .before .before .run .ensures ∙ ap (λ (m : Machine). runOf (pinsGiven (c .before .before .before .before .before .before .before .before .before .before .before .before .before .before .before .before .before .before .before .before .args .pins0) (c .before .before .before .before .before .before .before .before .before .before .before .before .before .before .before .before .before .before .before .before .args .pins1) (c .before .before .before .before .before .before .before .before .before .before .before .before .before .before .before .before .before .before .before .before .args .pins2) (c .before .before .before .before .before .before .before .before .before .before .before .before .before .before .before .before .before .before .before .before .args .pins3)) (now (c .before .before .before .before .before .before .before .before .before .before .before .before .before .before .before .before .before .before .before .before .args .image)) (now (c .before .before .before .before .before .before .before .before .before .before .before .before .before .before .before .before .before .before .before .before .args .memory)) m (c .before .before .before .before .before .before .before .before .before .before .before .before .before .before .before .before .before .before .before .before .args .budget)) (load-machine _ _ (c .before .before .before .before .before .before .before .before .before .before .before .before .before .before .before .load .ensures .0) (admitted-loaded _ _ (c .before .before .before .before .before .before .before .before .before .before .before .before .before .before .before .load .ensures .0) _ _ _ (c .before .before .before .before .before .before .before .before .before .before .before .before .before .admitted .ensures) (c .before .before .before .before .before .before .before .before .before .before .before .before .if1 .left))))) (is-done _ _ _ (admitted-next _ _ (c .before .before .before .before .before .before .before .before .before .before .before .before .before .before .before .load .ensures .0) _ _ _ (c .before .before .before .before .before .before .before .before .before .before .before .before .before .admitted .ensures) _ (c .before .before .before .before .before .before .before .before .before .before .before .before .if1 .left) ∙ within))
+returns-3 c =
+    let saved : tie.After-save = c .before .before .before in
+    let done : tie.After-run = saved .before .before .before .before .before in
+    let few : tie.Else2 = done .before .before .before in
+    let admitted : tie.Else1 = few .before in
+    let begun = start admitted in
+    let image = now (begun .args .image) in
+    let memory = now (begun .args .memory) in
+    let budget = begun .args .budget in
+    let loaded = known admitted in
+    let went = done .run .ensures ∙ ap (λ (m : Machine). runOf (pins begun) image memory m budget) (loaded .is) in
+    let within : budgetRefusal budget ≡ 0 = rw (le-ltb 1000000 budget (few .if2 .left)) in
+    ap (λ (x : Lent). answer (done .run .result .refusal) x) (left-is _ _ _ _ went (saved .save .ensures)) ∙ rw (number-is _ _ _ went) (is-done _ _ _ (loaded .next _ ∙ within))
 
 pub z8-run-spec : {M : Type 1} → statement M
 z8-run-spec =

@@ -32,7 +32,17 @@ same-length-2 c = search needs
 
 returns-2 : tie.Need-returns-2
 unfolding spanCallOf
-returns-2 c = ap (λ (x : LentSpan). answer 0 x) (span-left _ _ _ (c .before .before .before .before .before .span .ensures ∙ ap (λ (m : Machine). spanOf (c .before .before .before .before .before .before .before .before .before .before .before .before .args .span) m) (load-machine _ _ (c .before .before .before .before .before .before .before .before .before .load .ensures .0) (c .before .before .before .before .before .before .before .if1 .left))) (c .before .before .save .ensures)) ∙ is-done _ _ _ (sym (load-refuses _ _ (c .before .before .before .before .before .before .before .before .before .load .ensures .0)) ∙ c .before .before .before .before .before .before .before .if1 .left)
+returns-2 c =
+    let saved : tie.After-save = c .before .before in
+    let done : tie.After-span = saved .before .before .before in
+    let accepted : tie.Else1 = done .before .before in
+    let load : tie.After-load = accepted .before .before in
+    let begun : tie.Start = load .before .before .before in
+    let refusal = accepted .if1 .left in
+    let machine-is = load-machine _ _ (load .load .ensures .0) refusal in
+    let went = done .span .ensures ∙ ap (λ (m : Machine). spanOf (begun .args .span) m) machine-is in
+    let none = sym (load-refuses _ _ (load .load .ensures .0)) ∙ refusal in
+    ap (λ (x : LentSpan). answer 0 x) (span-left _ _ _ went (saved .save .ensures)) ∙ is-done _ _ _ none
 
 pub z8-span-spec : {M : Type 1} → statement M
 z8-span-spec =
