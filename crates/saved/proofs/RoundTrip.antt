@@ -10,6 +10,7 @@ use borrow.Author.Tests.{eqb-true, eqb-false, eq-eqb, ne-eqb, le-leb}
 use lib.Dec.{T, eqb, leb, eqb→eq, leb→le, le→leb, lit<, lit≤}
 use lib.ListN.{getD, length, take, drop, length-append, take-append-drop, drop-of-length-le, List·getD-eq-default, List·getD-append}
 use lib.Seq.{drop-cons, length-take-le, getD-take, getD-append-add, take-at}
+use Rattle.numbers.specs.Numbers.{refusedLength, savedLength}
 use Rattle.word.specs.Choose.{pick, oneIf}
 use Rattle.word.specs.Fields.{bitOf, lower, wordOf, highByte, lowByte}
 use Rattle.word.proofs.Computed.{by-test, agree, and-left, and-right}
@@ -21,10 +22,18 @@ use Rattle.machine.specs.Start.{isKind, isCost}
 use Rattle.machine.specs.Legal.{mayHold, LegalFile, Legal}
 use Rattle.machine.specs.declared.Machine.{Machine}
 use Rattle.machine.proofs.Legal.{zero-may, irq-small}
-use Rattle.saved.specs.Saved.{byte, timerOf, machineOf, restOf, savedOf, countsFit, ownFit, zeros, holesEmpty, bitsClear, legalOf, firstOf, legalRefusal, refusalOf}
+use Rattle.saved.specs.Saved.{byte, timerOf, machineOf, restOf, savedOf, countsFit, ownFit, zeros, holesEmpty, bitsClear, legalOf, firstOf, legalRefusal, refusalOf, lengthRefusal}
 use Rattle.saved.specs.ForCode.{loadOf}
 
--- what is not refused is 268 bytes, and legal
+-- what is not refused with 7 is as long as a saved machine
+pub right-length : (s : List ℕ) → lengthRefusal s ≡ 0 → length s ≡ savedLength
+right-length s e = eqb-true (length s) savedLength (is-true (eqb (length s) savedLength) e)
+  where
+    is-true : (b : Bool) → pick b 0 refusedLength ≡ 0 → b ≡ true
+    is-true true h = refl
+    is-true false h = absurd (omega arith)
+
+-- what is not refused is so too, and legal
 pub loads-268 : (s : List ℕ) → refusalOf s ≡ 0 → length s ≡ 268
 unfolding refusalOf
 loads-268 s e = eqb-true (length s) 268 (is-true (eqb (length s) 268) (legalRefusal s) e)

@@ -4,7 +4,7 @@ ghost use lib.ListN.{length, take};
 ghost use Rattle.numbers.specs.Numbers.{fileLength, savedLength};
 ghost use Rattle.word.specs.Fields.{lowByte};
 ghost use Rattle.machine.specs.Legal.{Legal};
-ghost use Rattle.saved.specs.Saved.{timerOf, restOf, machineOf, savedOf, countsFit, ownFit, holesEmpty, bitsClear, legalOf, refusalOf};
+ghost use Rattle.saved.specs.Saved.{timerOf, restOf, machineOf, savedOf, countsFit, ownFit, holesEmpty, bitsClear, legalOf, lengthRefusal, refusalOf};
 ghost use Rattle.saved.specs.ForCode.{loadOf};
 use machine::File;
 use machine::Machine;
@@ -142,12 +142,24 @@ fn is_legal(saved: &[u8]) -> bool
     counts & own & holes & bits
 }
 
+// 7 where these aren't as many bytes as a saved machine has, or else 0.
+pub fn length_refusal(saved: &[u8]) -> u8
+    ensures { λ r. ⌜ r ≡ lengthRefusal (now (saved .entry)) ⌝ }
+{
+    if saved.len() != numbers::SAVED_LENGTH {
+        numbers::REFUSED_LENGTH
+    } else {
+        numbers::DONE
+    }
+}
+
 // Whether bytes are a saved machine: 0, or the refusal's number, 7 or 6.
 pub fn check(saved: &[u8]) -> u8
     ensures { λ r. ⌜ r ≡ refusalOf (now (saved .entry)) ⌝ }
 {
-    if saved.len() != numbers::SAVED_LENGTH {
-        return numbers::REFUSED_LENGTH;
+    let refusal = length_refusal(saved);
+    if refusal != numbers::DONE {
+        return refusal;
     }
     let legal = is_legal(saved);
     if legal {

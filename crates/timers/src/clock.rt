@@ -74,7 +74,11 @@ fn tick_both(by: Source, s: Setting, m: Moving, k: u32) -> Spanned
         t1,
         lines: second,
     };
-    Spanned { moving, ends0, ends1 }
+    Spanned {
+        moving,
+        ends0,
+        ends1,
+    }
 }
 
 // The ticks of the divider in some cycles, and the divider after them.

@@ -9,6 +9,7 @@ use borrow.Author.Tests.{eqb-false, lt-ltb}
 use Rattle.numbers.specs.Numbers.{version, refusedImage, imageMost}
 use Rattle.word.specs.Choose.{pick}
 use Rattle.word.proofs.Computed.{by-test}
+use Rattle.opcodes.specs.Instruction.{decodeOf, encodeOf}
 use Rattle.opcodes.specs.declared.Decoded.{Decoded}
 use Rattle.opcodes.specs.declared.Decoded.the-variants as decoded
 use Rattle.opcodes.specs.declared.Encoded.{Encoded}
@@ -20,6 +21,7 @@ use Rattle.machine.specs.declared.Machine.{Machine}
 use Rattle.machine.specs.declared.Pins.{Pins}
 use Rattle.machine.proofs.Legal.{LegalPins, made-legal, default-legal, reset-legal, span-legal}
 use Rattle.deeds.proofs.Fits.{AllRead}
+use Rattle.execute.specs.Execute.{codeAt}
 use Rattle.saved.specs.Saved.{byte, machineOf, savedOf, firstOf, lengthRefusal, refusalOf}
 use Rattle.saved.proofs.RoundTrip.{bytes-and-back, machine-and-back}
 use Rattle.step.specs.Step.{Progress, stepOf}
@@ -114,8 +116,9 @@ decoded-untouched given (decoded.Refused n) refused = refl
 pub decode-untouched : (image : List ℕ) (at : ℕ) (given : Four) → (decodeCallOf image at given .number ≡ 0 → ⊥) → decodeCallOf image at given .left ≡ given
 unfolding decodeCallOf
 decode-untouched image at given =
+    let i = codeAt image at in
     by-test (λ (a : Answer Four). (a .number ≡ 0 → ⊥) → a .left ≡ given) (eqb (imageRefusal image) 0)
-    (λ t. decoded-untouched given _)
+    (λ t. decoded-untouched given (decodeOf (i .op) (i .first) (i .second)))
     (λ t refused. refl)
 
 encoded-untouched : (given : Four) (e : Encoded) → (encodedInto given e .number ≡ 0 → ⊥) → encodedInto given e .left ≡ given
@@ -124,7 +127,7 @@ encoded-untouched given (encoded.Refused n) refused = refl
 
 pub encode-untouched : (op first second : ℕ) (given : Four) → (encodeCallOf op first second given .number ≡ 0 → ⊥) → encodeCallOf op first second given .left ≡ given
 unfolding encodeCallOf
-encode-untouched op first second given = encoded-untouched given _
+encode-untouched op first second given = encoded-untouched given (encodeOf op first second)
 
 -- a run refused for what it was lent, by 7, 6, 1, 2 or 4
 pub run-untouched : (p : Pins) (image : List ℕ) (budget : ℕ) (given : Lent) (n : ℕ)

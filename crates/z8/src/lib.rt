@@ -7,7 +7,7 @@ use opcodes::Encoded;
 ghost use mathlib.Core.Path.{_≡_};
 ghost use Rattle.numbers.specs.Numbers.{version};
 ghost use Rattle.saved.specs.Saved.{refusalOf};
-ghost use Rattle.z8.specs.Calls.{answer, lent, lentSpan, four, pinsGiven, makeOf, makeDefaultOf, resetCallOf, decodeCallOf, encodeCallOf, stepCallOf, runCallOf, spanCallOf};
+ghost use Rattle.z8.specs.Calls.{answer, lent, lentSpan, four, pinsGiven, imageRefusal, memoryRefusal, makeOf, makeDefaultOf, resetCallOf, decodeCallOf, encodeCallOf, stepCallOf, runCallOf, spanCallOf};
 ghost use Rattle.z8.specs.ForCode.{admittedOf};
 
 // Nothing is refused.
@@ -26,11 +26,12 @@ pub extern "C" fn z8_version() -> u32
 pub extern "C" fn z8_make(saved: &mut [u8], kind: u32, cost: u32) -> u32
     ensures { λ r. ⌜ answer r (now (saved .exit)) ≡ makeOf kind cost (now (saved .entry)) ⌝ }
 {
-    if saved.len() != numbers::SAVED_LENGTH {
-        return numbers::REFUSED_LENGTH as u32;
+    let refusal = saved::length_refusal(&*saved);
+    if refusal != numbers::DONE {
+        return refusal as u32;
     }
     let made = Machine::make(kind, cost);
-    if made.refusal != 0 {
+    if made.refusal != numbers::DONE {
         return made.refusal as u32;
     }
     let m = made.machine;
@@ -43,8 +44,9 @@ pub extern "C" fn z8_make(saved: &mut [u8], kind: u32, cost: u32) -> u32
 pub extern "C" fn z8_make_default(saved: &mut [u8]) -> u32
     ensures { λ r. ⌜ answer r (now (saved .exit)) ≡ makeDefaultOf (now (saved .entry)) ⌝ }
 {
-    if saved.len() != numbers::SAVED_LENGTH {
-        return numbers::REFUSED_LENGTH as u32;
+    let refusal = saved::length_refusal(&*saved);
+    if refusal != numbers::DONE {
+        return refusal as u32;
     }
     let m = Machine::default();
     saved::save(&mut *saved, m);
@@ -66,7 +68,7 @@ pub extern "C" fn z8_reset(saved: &mut [u8]) -> u32
     ensures { λ r. ⌜ answer r (now (saved .exit)) ≡ resetCallOf (now (saved .entry)) ⌝ }
 {
     let loaded = saved::load(&*saved);
-    if loaded.refusal != 0 {
+    if loaded.refusal != numbers::DONE {
         return loaded.refusal as u32;
     }
     let m = loaded.machine;
@@ -87,8 +89,9 @@ pub extern "C" fn z8_decode(
 ) -> u32
     ensures { λ r. ⌜ answer r (four (now (opcode .exit)) (now (first .exit)) (now (second .exit)) (now (size .exit))) ≡ decodeCallOf (now (image .entry)) at (four (now (opcode .entry)) (now (first .entry)) (now (second .entry)) (now (size .entry))) ⌝ }
 {
-    if numbers::IMAGE_MOST < image.len() {
-        return numbers::REFUSED_IMAGE as u32;
+    let refusal = image_refusal(image);
+    if refusal != numbers::DONE {
+        return refusal as u32;
     }
     let i = execute::fetch(image, at);
     let d = opcodes::instruction::decode(i.op, i.first, i.second);
@@ -130,20 +133,40 @@ pub extern "C" fn z8_encode(
     }
 }
 
+// 1 where the image is too long, or else 0.
+fn image_refusal(image: &[u8]) -> u8
+    ensures { λ r. ⌜ r ≡ imageRefusal (now (image .entry)) ⌝ }
+{
+    if numbers::IMAGE_MOST < image.len() {
+        numbers::REFUSED_IMAGE
+    } else {
+        numbers::DONE
+    }
+}
+
+// 2 where the data memory is too long, or else 0.
+fn memory_refusal(memory: &[u8]) -> u8
+    ensures { λ r. ⌜ r ≡ memoryRefusal (now (memory .entry)) ⌝ }
+{
+    if numbers::DATA_MOST < memory.len() {
+        numbers::REFUSED_DATA
+    } else {
+        numbers::DONE
+    }
+}
+
 // The first of 7, 6, 1 and 2 that applies, or 0.
-fn admitted(saved: u8, image: &[u8], memory: &[u8]) -> u32
+fn admitted(saved: u8, image: &[u8], memory: &[u8]) -> u8
     ensures { λ r. ⌜ r ≡ admittedOf saved (now (image .entry)) (now (memory .entry)) ⌝ }
 {
-    if saved != 0 {
-        return saved as u32;
+    if saved != numbers::DONE {
+        return saved;
     }
-    if numbers::IMAGE_MOST < image.len() {
-        return numbers::REFUSED_IMAGE as u32;
+    let refusal = image_refusal(image);
+    if refusal != numbers::DONE {
+        return refusal;
     }
-    if numbers::DATA_MOST < memory.len() {
-        return numbers::REFUSED_DATA as u32;
-    }
-    DONE
+    memory_refusal(memory)
 }
 
 // One step: 7, 6, 1, 2, 5. With 5 `step` has left the memory as it was.
@@ -164,8 +187,8 @@ pub extern "C" fn z8_step(
 {
     let loaded = saved::load(&*saved);
     let refusal = admitted(loaded.refusal, image, &*memory);
-    if refusal != 0 {
-        return refusal;
+    if refusal != numbers::DONE {
+        return refusal as u32;
     }
     let m = loaded.machine;
     let pins = Pins {
@@ -175,7 +198,7 @@ pub extern "C" fn z8_step(
         port3: pins3,
     };
     let s = step::step(m, pins, image, &mut *memory);
-    if s.refusal != 0 {
+    if s.refusal != numbers::DONE {
         return s.refusal as u32;
     }
     let after = s.machine;
@@ -205,8 +228,8 @@ pub extern "C" fn z8_run(
 {
     let loaded = saved::load(&*saved);
     let refusal = admitted(loaded.refusal, image, &*memory);
-    if refusal != 0 {
-        return refusal;
+    if refusal != numbers::DONE {
+        return refusal as u32;
     }
     if numbers::BUDGET_MOST < budget {
         return numbers::REFUSED_BUDGET as u32;
@@ -233,7 +256,7 @@ pub extern "C" fn z8_span(saved: &mut [u8], span: u32, ends0: &mut u32, ends1: &
     ensures { λ r. ⌜ answer r (lentSpan (now (saved .exit)) (now (ends0 .exit)) (now (ends1 .exit))) ≡ spanCallOf span (lentSpan (now (saved .entry)) (now (ends0 .entry)) (now (ends1 .entry))) ⌝ }
 {
     let loaded = saved::load(&*saved);
-    if loaded.refusal != 0 {
+    if loaded.refusal != numbers::DONE {
         return loaded.refusal as u32;
     }
     let m = loaded.machine;

@@ -1,40 +1,48 @@
+use borrow.Author.Needs.{needs}
 use Rattle.z8.proofs.admitted.Statement.{statement}
 use Rattle.z8.proofs.admitted.Tie as tie
-use mathlib.Core.Path.{_≡_}
-use borrow.Author.Tests.{eq-eqb, ne-eqb, lt-ltb, le-ltb}
+use mathlib.Core.Path.{_≡_, sym}
 use mathlib.Core.Bool.{true, false}
-use lib.Dec.{eqb, ltb}
-use lib.ListN.{length}
-use denote.Ref.{now}
+use borrow.Author.Tests.{eq-eqb, ne-eqb}
+use mathlib.Core.List.{[]}
+use lib.Dec.{eqb}
 use Rattle.z8.specs.ForCode.{admittedOf}
+use Rattle.z8.proofs.Refusals.{one-more}
 
 returns : tie.Need-returns
 unfolding admittedOf
-returns c = let refused : eqb (c .before .args .saved) 0 ≡ false = ne-eqb _ _ (c .if1 .taken) in rw (refused)
+returns c =
+    let begun : tie.Start = c .before .before .before in
+    let refused : eqb (begun .args .saved) 0 ≡ false = ne-eqb _ _ (c .if1 .taken) in
+    rw refused
+
+image-refusal-requires : tie.Need-image-refusal-requires
+image-refusal-requires c κs = search needs
 
 returns-2 : tie.Need-returns-2
 unfolding admittedOf
-returns-2 c = let loaded : eqb (c .before .before .args .saved) 0 ≡ true = eq-eqb _ _ (c .before .if1 .left) in let over : ltb 65536 (length (now (c .before .before .args .image))) ≡ true = lt-ltb _ _ (c .if2 .taken) in rw (loaded, over)
+returns-2 c =
+    let of-image : tie.After-image-refusal = c .before in
+    let test : tie.Else1 = of-image .before in
+    let begun : tie.Start = test .before .before .before in
+    let loaded : eqb (begun .args .saved) 0 ≡ true = eq-eqb _ _ (test .if1 .left) in
+    let refused : eqb (of-image .image-refusal .result) 0 ≡ false = ne-eqb _ _ (c .if2 .taken) in
+    rw (loaded, ← of-image .image-refusal .ensures, refused)
+
+memory-refusal-requires : tie.Need-memory-refusal-requires
+memory-refusal-requires c κs = search needs
 
 returns-3 : tie.Need-returns-3
 unfolding admittedOf
 returns-3 c =
-    let image : tie.Else2 = c .before in
-    let begun : tie.Start = image .before .before in
-    let loaded : eqb (begun .args .saved) 0 ≡ true = eq-eqb _ _ (image .before .if1 .left) in
-    let fits : ltb 65536 (length (now (begun .args .image))) ≡ false = le-ltb _ _ (image .if2 .left) in
-    let over : ltb 65536 (length (now (begun .args .memory))) ≡ true = lt-ltb _ _ (c .if3 .taken) in
-    rw (loaded, fits, over)
-
-returns-4 : tie.Need-returns-4
-unfolding admittedOf
-returns-4 c =
-    let image : tie.Else2 = c .before in
-    let begun : tie.Start = image .before .before in
-    let loaded : eqb (begun .args .saved) 0 ≡ true = eq-eqb _ _ (image .before .if1 .left) in
-    let fits : ltb 65536 (length (now (begun .args .image))) ≡ false = le-ltb _ _ (image .if2 .left) in
-    let room : ltb 65536 (length (now (begun .args .memory))) ≡ false = le-ltb _ _ (c .if3 .left) in
-    rw (loaded, fits, room)
+    let fits : tie.Else2 = c .before in
+    let of-image : tie.After-image-refusal = fits .before in
+    let test : tie.Else1 = of-image .before in
+    let begun : tie.Start = test .before .before .before in
+    let loaded : eqb (begun .args .saved) 0 ≡ true = eq-eqb _ _ (test .if1 .left) in
+    let taken : eqb (of-image .image-refusal .result) 0 ≡ true = eq-eqb _ _ (fits .if2 .left) in
+    rw (loaded, ← of-image .image-refusal .ensures, taken, ← c .memory-refusal .ensures) (sym (one-more [] _))
 
 pub admitted-spec : {M : Type 1} → statement M
-admitted-spec = tie.close (tie.spec returns returns-2 returns-3 returns-4)
+admitted-spec =
+    tie.close (tie.spec returns image-refusal-requires returns-2 memory-refusal-requires returns-3)

@@ -2,16 +2,23 @@ use borrow.Author.Needs.{needs}
 use Rattle.z8.proofs.z8_decode.Statement.{statement}
 use Rattle.z8.proofs.z8_decode.Tie as tie
 use mathlib.Core.Path.{_≡_}
-use borrow.Author.Tests.{lt-ltb, le-ltb}
 use mathlib.Core.Bool.{true, false}
-use lib.Dec.{ltb}
-use lib.ListN.{length}
-use denote.Ref.{now}
+use borrow.Author.Tests.{eq-eqb, ne-eqb}
+use lib.Dec.{eqb}
 use Rattle.z8.specs.Calls.{decodeCallOf}
+
+image-refusal-requires : tie.Need-image-refusal-requires
+image-refusal-requires c κs = search needs
+
+cast-result : tie.Need-cast-result
+cast-result c = search needs
 
 returns : tie.Need-returns
 unfolding decodeCallOf
-returns c = let over : ltb 65536 (length (now (c .before .before .args .image))) ≡ true = lt-ltb _ _ (c .if1 .taken) in rw (over)
+returns c =
+    let of-image : tie.After-image-refusal = c .before in
+    let refused : eqb (of-image .image-refusal .result) 0 ≡ false = ne-eqb _ _ (c .if1 .taken) in
+    rw (← of-image .image-refusal .ensures, refused)
 
 fetch-requires : tie.Need-fetch-requires
 fetch-requires c κs = search needs
@@ -22,8 +29,8 @@ decode-requires c κs = search needs
 enum-known-d : tie.Need-enum-known-d
 enum-known-d c = search needs
 
-cast-result : tie.Need-cast-result
-cast-result c = search needs
+cast-result-2 : tie.Need-cast-result-2
+cast-result-2 c = search needs
 
 enum-known-d-2 : tie.Need-enum-known-d-2
 enum-known-d-2 c = search needs
@@ -31,32 +38,34 @@ enum-known-d-2 c = search needs
 returns-2 : tie.Need-returns-2
 unfolding decodeCallOf
 returns-2 c =
-    let decoded : tie.After-decode = c .before .before .before in
-    let bytes : tie.After-fetch = decoded .before in
-    let sized : tie.Else1 = bytes .before in
-    let begun : tie.Start = sized .before .before in
-    let fits : ltb 65536 (length (now (begun .args .image))) ≡ false = le-ltb _ _ (sized .if1 .left) in
-    rw (fits, ← bytes .fetch .ensures, ← decoded .decode .ensures, c .before .d .given .1)
+    let read : tie.After-fetch = c .before .before .before .before in
+    let fits : tie.Else1 = read .before in
+    let of-image : tie.After-image-refusal = fits .before in
+    let taken : eqb (of-image .image-refusal .result) 0 ≡ true = eq-eqb _ _ (fits .if1 .left) in
+    let decoded = c .before .before .before .decode .ensures in
+    rw (← of-image .image-refusal .ensures, taken, ← read .fetch .ensures, ← decoded, c .before .d .given .1)
 
 returns-3 : tie.Need-returns-3
 unfolding decodeCallOf
 returns-3 c =
-    let decoded : tie.After-decode = c .before .before .before in
-    let bytes : tie.After-fetch = decoded .before in
-    let sized : tie.Else1 = bytes .before in
-    let begun : tie.Start = sized .before .before in
-    let fits : ltb 65536 (length (now (begun .args .image))) ≡ false = le-ltb _ _ (sized .if1 .left) in
-    rw (fits, ← bytes .fetch .ensures, ← decoded .decode .ensures, c .before .d2 .given .1)
+    let read : tie.After-fetch = c .before .before .before .before in
+    let fits : tie.Else1 = read .before in
+    let of-image : tie.After-image-refusal = fits .before in
+    let taken : eqb (of-image .image-refusal .result) 0 ≡ true = eq-eqb _ _ (fits .if1 .left) in
+    let decoded = c .before .before .before .decode .ensures in
+    rw (← of-image .image-refusal .ensures, taken, ← read .fetch .ensures, ← decoded, c .before .d2 .given .1)
 
 pub z8-decode-spec : {M : Type 1} → statement M
 z8-decode-spec =
     tie.close
     (tie.spec
+    image-refusal-requires
+    cast-result
     returns
     fetch-requires
     decode-requires
     enum-known-d
-    cast-result
+    cast-result-2
     enum-known-d-2
     returns-2
     returns-3)

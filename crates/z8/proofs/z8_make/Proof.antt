@@ -1,24 +1,39 @@
 use borrow.Author.Needs.{needs}
 use Rattle.z8.proofs.z8_make.Statement.{statement}
 use Rattle.z8.proofs.z8_make.Tie as tie
-use mathlib.Core.Path.{_≡_}
-use borrow.Author.Tests.{eq-eqb, ne-eqb}
+use mathlib.Core.Path.{_≡_, _∙_, sym}
 use mathlib.Core.Bool.{true, false}
+use borrow.Author.Tests.{eq-eqb, ne-eqb}
 use lib.Dec.{eqb}
-use lib.ListN.{length}
 use denote.Ref.{now}
+use Rattle.saved.proofs.RoundTrip.{right-length}
 use Rattle.machine.specs.Start.{madeOf}
 use Rattle.z8.specs.Calls.{makeOf}
 
+length-refusal-requires : tie.Need-length-refusal-requires
+length-refusal-requires c κs = search needs
+
+cast-result : tie.Need-cast-result
+cast-result c = search needs
+
+same-length : tie.Need-same-length
+same-length c = search needs
+
 returns : tie.Need-returns
 unfolding makeOf
-returns c = let other : eqb (length (now (c .before .before .args .saved))) 268 ≡ false = ne-eqb _ _ (c .if1 .taken) in rw (other)
+returns c =
+    let of-length : tie.After-length-refusal = c .before in
+    let other : eqb (of-length .length-refusal .result) 0 ≡ false = ne-eqb _ _ (c .if1 .taken) in
+    rw (← of-length .length-refusal .ensures, other, other)
 
 make-requires : tie.Need-make-requires
 make-requires c κs = search needs
 
-cast-result : tie.Need-cast-result
-cast-result c = search needs
+cast-result-2 : tie.Need-cast-result-2
+cast-result-2 c = search needs
+
+same-length-2 : tie.Need-same-length-2
+same-length-2 c = search needs
 
 returns-2 : tie.Need-returns-2
 unfolding makeOf
@@ -26,17 +41,22 @@ returns-2 c =
     let test : tie.Then2 = c .before in
     let done : tie.After-make = test .before .before in
     let sized : tie.Else1 = done .before in
-    let begun : tie.Start = sized .before .before in
-    let long : eqb (length (now (begun .args .saved))) 268 ≡ true = eq-eqb _ _ (sized .if1 .left) in
+    let of-length : tie.After-length-refusal = sized .before in
+    let begun : tie.Start = of-length .before .before .before in
+    let long : eqb (of-length .length-refusal .result) 0 ≡ true = eq-eqb _ _ (sized .if1 .left) in
     let refused : eqb (done .make .result .refusal) 0 ≡ false = ne-eqb _ _ (test .if2 .taken) in
     let made : done .make .result ≡ madeOf (begun .args .kind) (begun .args .cost) = done .make .ensures in
-    rw (long, ← made, refused, refused)
+    rw (← of-length .length-refusal .ensures, long, ← made, refused, refused)
 
 save-requires : tie.Need-save-requires
-save-requires c κs = search needs
+save-requires c κs =
+    let sized : tie.Else1 = c .before .before .before .before .before in
+    let of-length : tie.After-length-refusal = sized .before in
+    let begun : tie.Start = of-length .before .before .before in
+    right-length (now (begun .args .saved)) (sym (of-length .length-refusal .ensures) ∙ sized .if1 .left)
 
-same-length : tie.Need-same-length
-same-length c = search needs
+same-length-3 : tie.Need-same-length-3
+same-length-3 c = search needs
 
 returns-3 : tie.Need-returns-3
 unfolding makeOf
@@ -45,13 +65,25 @@ returns-3 c =
     let test : tie.Else2 = saved .before .before .before in
     let done : tie.After-make = test .before .before in
     let sized : tie.Else1 = done .before in
-    let begun : tie.Start = sized .before .before in
-    let long : eqb (length (now (begun .args .saved))) 268 ≡ true = eq-eqb _ _ (sized .if1 .left) in
+    let of-length : tie.After-length-refusal = sized .before in
+    let begun : tie.Start = of-length .before .before .before in
+    let long : eqb (of-length .length-refusal .result) 0 ≡ true = eq-eqb _ _ (sized .if1 .left) in
     let accepted : eqb (done .make .result .refusal) 0 ≡ true = eq-eqb _ _ (test .if2 .left) in
     let made : done .make .result ≡ madeOf (begun .args .kind) (begun .args .cost) = done .make .ensures in
-    rw (saved .save .ensures, long, ← made, accepted)
+    rw (saved .save .ensures, ← of-length .length-refusal .ensures, long, ← made, accepted)
 
 pub z8-make-spec : {M : Type 1} → statement M
 z8-make-spec =
     tie.close
-    (tie.spec returns make-requires cast-result returns-2 save-requires same-length returns-3)
+    (tie.spec
+    length-refusal-requires
+    cast-result
+    same-length
+    returns
+    make-requires
+    cast-result-2
+    same-length-2
+    returns-2
+    save-requires
+    same-length-3
+    returns-3)

@@ -35,6 +35,9 @@ load-requires c κs = search needs
 admitted-requires : tie.Need-admitted-requires
 admitted-requires c κs = search needs
 
+cast-result : tie.Need-cast-result
+cast-result c = search needs
+
 same-length : tie.Need-same-length
 same-length c = search needs
 
@@ -43,6 +46,9 @@ same-length-2 c = search needs
 
 returns : tie.Need-returns
 returns c = no-run _ _ _ _ (c .before .before .before .load .ensures .0) _ (c .before .admitted .ensures) (c .if1 .taken) _
+
+cast-result-2 : tie.Need-cast-result-2
+cast-result-2 c = search needs
 
 same-length-3 : tie.Need-same-length-3
 same-length-3 c = search needs
@@ -68,8 +74,8 @@ save-requires c κs =
     let admitted : tie.Else1 = c .before .before .before .before .before .before .before .before in
     known admitted .long
 
-cast-result : tie.Need-cast-result
-cast-result c = search needs
+cast-result-3 : tie.Need-cast-result-3
+cast-result-3 c = search needs
 
 same-length-5 : tie.Need-same-length-5
 same-length-5 c = search needs
@@ -99,15 +105,17 @@ z8-run-spec =
     (tie.spec
     load-requires
     admitted-requires
+    cast-result
     same-length
     same-length-2
     returns
+    cast-result-2
     same-length-3
     same-length-4
     returns-2
     run-requires
     save-requires
-    cast-result
+    cast-result-3
     same-length-5
     same-length-6
     returns-3)

@@ -39,6 +39,9 @@ load-requires c κs = search needs
 admitted-requires : tie.Need-admitted-requires
 admitted-requires c κs = search needs
 
+cast-result : tie.Need-cast-result
+cast-result c = search needs
+
 same-length : tie.Need-same-length
 same-length c = search needs
 
@@ -53,8 +56,8 @@ step-requires c κs =
     let admitted : tie.Else1 = c .before .before in
     known admitted .legal
 
-cast-result : tie.Need-cast-result
-cast-result c = search needs
+cast-result-2 : tie.Need-cast-result-2
+cast-result-2 c = search needs
 
 same-length-3 : tie.Need-same-length-3
 same-length-3 c = search needs
@@ -109,11 +112,12 @@ z8-step-spec =
     (tie.spec
     load-requires
     admitted-requires
+    cast-result
     same-length
     same-length-2
     returns
     step-requires
-    cast-result
+    cast-result-2
     same-length-3
     same-length-4
     returns-2

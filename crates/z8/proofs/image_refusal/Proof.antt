@@ -1,0 +1,12 @@
+use Rattle.z8.proofs.image_refusal.Statement.{statement}
+use Rattle.z8.proofs.image_refusal.Tie as tie
+use borrow.Author.Tests.{lt-ltb, le-ltb}
+
+returns : tie.Need-returns
+returns c = rw (lt-ltb _ _ (c .if1 .taken))
+
+returns-2 : tie.Need-returns-2
+returns-2 c = rw (le-ltb _ _ (c .if1 .left))
+
+pub image-refusal-spec : {M : Type 1} → statement M
+image-refusal-spec = tie.close (tie.spec returns returns-2)
