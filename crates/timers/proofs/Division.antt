@@ -15,6 +15,7 @@ use Rattle.timers.specs.declared.Counting.{Counting}
 use Rattle.timers.specs.declared.Ticked.{Ticked}
 use Rattle.timers.proofs.Iterate.{iter-zero, iter-suc, iter-split, iter-fixed}
 use Rattle.timers.specs.ForCode.{more, ticks, isShort, shortly, fewTo, turnedOf, fewOf}
+use Rattle.timers.specs.declared.Timer.{Timer}
 
 -- the timer at other counts, with `e` ends behind it
 abbrev pub at : Counting → ℕ → ℕ → ℕ → Ticked
@@ -188,29 +189,33 @@ not-shortly by s c k h = go (moves by s c) h
     go true t = (refl, ltb-false k (c .timer .prescaler) t)
     go false t = absurd (subst (λ (x : Bool). T x) t tt)
 
+-- what is counting has come to t, and did not end
+abbrev cameTo : Counting → Timer → Ticked
+cameTo c t = noEnd (countAt c (t .prescaler) (t .counter))
+
 -- so few ticks that the count doesn't end
 pub ticks-few : (by : Source) (s : Setup) (c : Counting) (k : ℕ) → LegalSetup s → LegalCounting c
     → fewOf (moves by s c) (s .p) k (c .timer) .few ≡ true
     → ticks by s k c
-    ≡ noEnd (countAt c (fewOf (moves by s c) (s .p) k (c .timer) .timer .prescaler) (fewOf (moves by s c) (s .p) k (c .timer) .timer .counter))
+    ≡ cameTo c (fewOf (moves by s c) (s .p) k (c .timer) .timer)
 unfolding fewOf turnedOf
 ticks-few by s c k ls lc f = go (moves by s c) refl f
   where
     turn : moves by s c ≡ true → c .timer .prescaler ≤ k → (b : Bool) → ltb (k - c .timer .prescaler) (s .p * (c .timer .counter - 1)) ≡ b
         → pick b (fewTo (s .p - (k - c .timer .prescaler) % s .p) (c .timer .counter - 1 - (k - c .timer .prescaler) / s .p)) (record { few = false; timer = c .timer }) .few ≡ true
         → ticks by s k c
-        ≡ noEnd (countAt c (pick b (fewTo (s .p - (k - c .timer .prescaler) % s .p) (c .timer .counter - 1 - (k - c .timer .prescaler) / s .p)) (record { few = false; timer = c .timer }) .timer .prescaler) (pick b (fewTo (s .p - (k - c .timer .prescaler) % s .p) (c .timer .counter - 1 - (k - c .timer .prescaler) / s .p)) (record { few = false; timer = c .timer }) .timer .counter))
+        ≡ cameTo c (pick b (fewTo (s .p - (k - c .timer .prescaler) % s .p) (c .timer .counter - 1 - (k - c .timer .prescaler) / s .p)) (record { few = false; timer = c .timer }) .timer)
     turn e past true h t = ticks-within by s c e k ls lc past (ltb-true (k - c .timer .prescaler) (s .p * (c .timer .counter - 1)) h)
     turn e past false h t = absurd (subst T (sym t) tt)
 
     low : moves by s c ≡ true → (b : Bool) → ltb k (c .timer .prescaler) ≡ b
         → pick b (fewTo (c .timer .prescaler - k) (c .timer .counter)) (turnedOf (s .p) k (c .timer)) .few ≡ true
         → ticks by s k c
-        ≡ noEnd (countAt c (pick b (fewTo (c .timer .prescaler - k) (c .timer .counter)) (turnedOf (s .p) k (c .timer)) .timer .prescaler) (pick b (fewTo (c .timer .prescaler - k) (c .timer .counter)) (turnedOf (s .p) k (c .timer)) .timer .counter))
+        ≡ cameTo c (pick b (fewTo (c .timer .prescaler - k) (c .timer .counter)) (turnedOf (s .p) k (c .timer)) .timer)
     low e true h t = ticks-low by s c e k (ltb-true k (c .timer .prescaler) h)
     low e false h t = turn e (ltb-false k (c .timer .prescaler) h) (ltb (k - c .timer .prescaler) (s .p * (c .timer .counter - 1))) refl t
 
     go : (b : Bool) → moves by s c ≡ b → fewOf b (s .p) k (c .timer) .few ≡ true
-        → ticks by s k c ≡ noEnd (countAt c (fewOf b (s .p) k (c .timer) .timer .prescaler) (fewOf b (s .p) k (c .timer) .timer .counter))
+        → ticks by s k c ≡ cameTo c (fewOf b (s .p) k (c .timer) .timer)
     go true e t = low e (ltb k (c .timer .prescaler)) refl t
     go false e t = ticks-off by s c k e

@@ -16,7 +16,13 @@ ended-requires-2 : tie.Need-ended-requires-2
 ended-requires-2 c κs = search needs
 
 returns : tie.Need-returns
-returns c = rw (ticks-apart (c .before .before .before .before .before .before .before .before .before .before .before .args .s) (c .before .before .before .before .before .before .before .before .before .before .before .args .by), c .before .before .ended2 .ensures, c .before .before .before .ended .ensures, c .before .before .before .before .advance2 .ensures, c .before .before .before .before .before .advance .ensures)
+returns c =
+    let second : tie.After-ended2 = c .before .before in
+    let first : tie.After-ended = second .before in
+    let t1 : tie.After-advance2 = first .before in
+    let t0 : tie.After-advance = t1 .before in
+    let st : tie.Start = t0 .before .before .before .before .before .before in
+    rw (ticks-apart (st .args .s) (st .args .by), second .ended2 .ensures, first .ended .ensures, t1 .advance2 .ensures, t0 .advance .ensures)
 
 pub tick-both-spec : {M : Type 1} → statement M
 tick-both-spec =

@@ -32,7 +32,16 @@ tout-written-requires-2 c κs = search needs
 
 returns : tie.Need-returns
 unfolding written
-returns c = rw (c .tout-written2 .ensures, c .before .tout-written .ensures, c .before .before .timer-written2 .ensures, c .before .before .before .timer-written .ensures, c .before .before .before .before .is-set4 .ensures, c .before .before .before .before .before .is-set3 .ensures, c .before .before .before .before .before .before .is-set2 .ensures, c .before .before .before .before .before .before .before .is-set .ensures, c .before .before .before .before .before .before .before .before .before .before .setting .ensures)
+returns c =
+    let tout : tie.After-tout-written = c .before in
+    let t1 : tie.After-timer-written2 = tout .before in
+    let t0 : tie.After-timer-written = t1 .before in
+    let enable1 : tie.After-is-set4 = t0 .before in
+    let load1 : tie.After-is-set3 = enable1 .before in
+    let enable0 : tie.After-is-set2 = load1 .before in
+    let load0 : tie.After-is-set = enable0 .before in
+    let by : tie.After-setting = load0 .before .before .before in
+    rw (c .tout-written2 .ensures, tout .tout-written .ensures, t1 .timer-written2 .ensures, t0 .timer-written .ensures, enable1 .is-set4 .ensures, load1 .is-set3 .ensures, enable0 .is-set2 .ensures, load0 .is-set .ensures, by .setting .ensures)
 
 pub write-tmr-spec : {M : Type 1} → statement M
 write-tmr-spec =

@@ -24,7 +24,13 @@ divider-moves-t1-requires : tie.Need-divider-moves-t1-requires
 divider-moves-t1-requires c κs = search needs
 
 returns-3 : tie.Need-returns-3
-returns-3 c = let a = c .before .before .before .before .before .before .args in let on : a .enabled ≡ true = not-false _ (c .before .before .before .before .before .if1 .left) in rw (c .divider-moves-t1 .ensures, c .before .is-set2 .ensures, c .before .before .before .before .is-set .ensures, on)
+returns-3 c =
+    let p31 : tie.After-is-set2 = c .before in
+    let inner : tie.After-is-set = p31 .before .before .before in
+    let test : tie.Else1 = inner .before in
+    let st : tie.Start = test .before in
+    let on : st .args .enabled ≡ true = not-false _ (test .if1 .left) in
+    rw (c .divider-moves-t1 .ensures, p31 .is-set2 .ensures, inner .is-set .ensures, on)
 
 pub moves-t1-spec : {M : Type 1} → statement M
 moves-t1-spec =

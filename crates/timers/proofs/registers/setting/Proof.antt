@@ -23,7 +23,13 @@ setup-requires-2 c κs = search needs
 
 returns : tie.Need-returns
 unfolding settingOf
-returns c = rw (c .setup2 .ensures, c .before .setup .ensures, c .before .before .edges-move-t1 .ensures, c .before .before .before .divider-moves-t1 .ensures, c .before .before .before .before .is-set2 .ensures, c .before .before .before .before .before .is-set .ensures)
+returns c =
+    let t0 : tie.After-setup = c .before in
+    let edges : tie.After-edges-move-t1 = t0 .before in
+    let divider : tie.After-divider-moves-t1 = edges .before in
+    let high : tie.After-is-set2 = divider .before in
+    let inner : tie.After-is-set = high .before in
+    rw (c .setup2 .ensures, t0 .setup .ensures, edges .edges-move-t1 .ensures, divider .divider-moves-t1 .ensures, high .is-set2 .ensures, inner .is-set .ensures)
 
 pub setting-spec : {M : Type 1} → statement M
 setting-spec =

@@ -17,7 +17,12 @@ returns c = let a = c .before .before .before .args in let rests : moves (a .by)
 
 sub-fallen : tie.Need-sub-fallen
 unfolding isShort
-sub-fallen c = let a = c .before .before .before .args in let goes : moves (a .by) (a .s) (a .c) ≡ true = sym (c .before .moves .ensures) ∙ not-false _ (c .if1 .left) in omega (arith, ltb-true (a .k) (a .c .timer .prescaler) (rw goes at (c .before .before .before .pre)))
+sub-fallen c =
+    let asked : tie.After-moves = c .before in
+    let st : tie.Start = asked .before .before in
+    let a = st .args in
+    let goes : moves (a .by) (a .s) (a .c) ≡ true = sym (asked .moves .ensures) ∙ not-false _ (c .if1 .left) in
+    omega (arith, ltb-true (a .k) (a .c .timer .prescaler) (rw goes at (st .pre)))
 
 count-at-requires : tie.Need-count-at-requires
 count-at-requires c κs = search needs

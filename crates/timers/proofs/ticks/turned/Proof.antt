@@ -22,11 +22,24 @@ down-requires c κs = search needs
 
 returns : tie.Need-returns
 unfolding turnedOf
-returns c = let a = c .before .before .before .before .before .before .before .args in let t = a .c .timer in let within : ltb (a .k - t .prescaler) (a .p * (t .counter - 1)) ≡ true = lt-ltb _ _ (rw (c .before .before .before .before .ticks-in .ensures) at (c .before .before .if1 .taken)) in rw (c .before .down .ensures, within)
+returns c =
+    let test : tie.Then1 = c .before .before in
+    let left : tie.After-ticks-in = test .before .before in
+    let st : tie.Start = left .before .before .before in
+    let a = st .args in
+    let t = a .c .timer in
+    let within : ltb (a .k - t .prescaler) (a .p * (t .counter - 1)) ≡ true = lt-ltb _ _ (rw (left .ticks-in .ensures) at (test .if1 .taken)) in
+    rw (c .before .down .ensures, within)
 
 returns-2 : tie.Need-returns-2
 unfolding turnedOf
-returns-2 c = let a = c .before .before .before .before .before .args in let t = a .c .timer in let ended : ltb (a .k - t .prescaler) (a .p * (t .counter - 1)) ≡ false = le-ltb _ _ (rw (c .before .before .ticks-in .ensures) at (c .if1 .left)) in rw ended
+returns-2 c =
+    let left : tie.After-ticks-in = c .before .before in
+    let st : tie.Start = left .before .before .before in
+    let a = st .args in
+    let t = a .c .timer in
+    let ended : ltb (a .k - t .prescaler) (a .p * (t .counter - 1)) ≡ false = le-ltb _ _ (rw (left .ticks-in .ensures) at (c .if1 .left)) in
+    rw ended
 
 pub turned-spec : {M : Type 1} → statement M
 turned-spec =
