@@ -21,6 +21,10 @@ past : (kind : ℕ) (mem : List ℕ) (a : ℕ) → dataStart kind ≤ a → leng
 unfolding dataByte
 past kind mem a h k = rw (le-ltb a (dataStart kind) h) (sym (List·getD-eq-default mem 0xFF k))
 
+-- past the first test, the address is one of data memory
+from : (s : tie.Else1) → dataStart (s .before .before .before .args .kind) ≤ s .before .before .before .args .a
+from s = rw (s .before .data-start .ensures) at (s .if1 .left)
+
 data-start-requires : tie.Need-data-start-requires
 data-start-requires c κs = search needs
 
@@ -31,10 +35,15 @@ shared-slice-read-result : tie.Need-shared-slice-read-result
 shared-slice-read-result c = search needs
 
 returns-2 : tie.Need-returns-2
-returns-2 c = let from : dataStart (c .before .before .before .before .before .args .kind) ≤ c .before .before .before .before .before .args .a = rw (c .before .before .before .data-start .ensures) at (c .before .before .if1 .left) in within _ (c .before .before .before .before .before .args .mem .now) _ from (c .before .if2 .taken)
+returns-2 c =
+    let inside : tie.Then2 = c .before in
+    let st : tie.Start = inside .before .before .before .before in
+    within _ (st .args .mem .now) _ (from (inside .before)) (inside .if2 .taken)
 
 returns-3 : tie.Need-returns-3
-returns-3 c = let from : dataStart (c .before .before .before .before .args .kind) ≤ c .before .before .before .before .args .a = rw (c .before .before .data-start .ensures) at (c .before .if1 .left) in past _ (c .before .before .before .before .args .mem .now) _ from (c .if2 .left)
+returns-3 c =
+    let st : tie.Start = c .before .before .before .before in
+    past _ (st .args .mem .now) _ (from (c .before)) (c .if2 .left)
 
 pub load-spec : {M : Type 1} → statement M
 load-spec =

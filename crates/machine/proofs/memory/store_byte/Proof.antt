@@ -21,6 +21,10 @@ past : (kind : ℕ) (mem : List ℕ) (a v : ℕ) → dataStart kind ≤ a → le
 unfolding dataStored
 past kind mem a v h k = rw (le-ltb a (dataStart kind) h) (sym (set-out mem a v k))
 
+-- past the first test, the address is one of data memory
+from : (s : tie.Else1) → dataStart (s .before .before .before .args .kind) ≤ s .before .before .before .args .a
+from s = rw (s .before .data-start .ensures) at (s .if1 .left)
+
 data-start-requires : tie.Need-data-start-requires
 data-start-requires c κs = search needs
 
@@ -34,10 +38,12 @@ same-length : tie.Need-same-length
 same-length c = search needs
 
 returns-2 : tie.Need-returns-2
-returns-2 c = let from : dataStart (c .before .before .before .before .args .kind) ≤ c .before .before .before .before .args .a = rw (c .before .before .data-start .ensures) at (c .before .if1 .left) in within _ _ _ _ from
+returns-2 c = within _ _ _ _ (from (c .before))
 
 returns-3 : tie.Need-returns-3
-returns-3 c = let from : dataStart (c .before .before .before .before .args .kind) ≤ c .before .before .before .before .args .a = rw (c .before .before .data-start .ensures) at (c .before .if1 .left) in past _ (c .before .before .before .before .args .mem .now) _ _ from (c .if2 .left)
+returns-3 c =
+    let st : tie.Start = c .before .before .before .before in
+    past _ (st .args .mem .now) _ _ (from (c .before)) (c .if2 .left)
 
 pub store-byte-spec : {M : Type 1} → statement M
 store-byte-spec =

@@ -45,13 +45,25 @@ same-length-2 : tie.Need-same-length-2
 same-length-2 c = search needs
 
 returns-2 : tie.Need-returns-2
-returns-2 c = rw (c .before .before .store-byte3 .ensures, c .before .before .before .before .before .before .store-byte2 .ensures, c .before .before .before .before .before .before .before .before .before .before .before .before .plus .ensures, c .before .before .before .before .before .before .before .before .before .b2 .given .1)
+returns-2 c =
+    let second : tie.After-store-byte3 = c .before .before in
+    let first : tie.After-store-byte2 = second .before .before .before .before in
+    let two : tie.After-b2 = first .before .before .before in
+    let next : tie.After-plus = two .before .before .before in
+    rw (second .store-byte3 .ensures, first .store-byte2 .ensures, next .plus .ensures, two .b2 .given .1)
 
 same-length-3 : tie.Need-same-length-3
 same-length-3 c = search needs
 
 returns-3 : tie.Need-returns-3
-returns-3 c = rw (c .before .before .store-byte6 .ensures, c .before .before .before .before .before .before .store-byte5 .ensures, c .before .before .before .before .before .before .before .before .before .before .store-byte4 .ensures, c .before .before .before .before .before .before .before .before .before .before .before .before .before .before .before .plus2 .ensures, c .before .before .before .before .before .before .before .before .before .before .before .before .before .before .before .before .plus .ensures, c .before .before .before .before .before .before .before .before .before .before .before .before .before .b3 .given .1)
+returns-3 c =
+    let third : tie.After-store-byte6 = c .before .before in
+    let second : tie.After-store-byte5 = third .before .before .before .before in
+    let first : tie.After-store-byte4 = second .before .before .before .before in
+    let three : tie.After-b3 = first .before .before .before in
+    let last : tie.After-plus2 = three .before .before in
+    let next : tie.After-plus = last .before in
+    rw (third .store-byte6 .ensures, second .store-byte5 .ensures, first .store-byte4 .ensures, last .plus2 .ensures, next .plus .ensures, three .b3 .given .1)
 
 pub store-bytes-spec : {M : Type 1} → statement M
 store-bytes-spec =

@@ -65,7 +65,30 @@ place-requires-20 c κs = search needs
 
 returns : tie.Need-returns
 unfolding resetPlaces
-returns c = rw (c .place20 .ensures, c .before .before .place19 .ensures, c .before .before .before .before .place18 .ensures, c .before .before .before .before .before .before .place17 .ensures, c .before .before .before .before .before .before .before .before .place16 .ensures, c .before .before .before .before .before .before .before .before .before .before .place15 .ensures, c .before .before .before .before .before .before .before .before .before .before .before .before .place14 .ensures, c .before .before .before .before .before .before .before .before .before .before .before .before .before .before .place13 .ensures, c .before .before .before .before .before .before .before .before .before .before .before .before .before .before .before .before .place12 .ensures, c .before .before .before .before .before .before .before .before .before .before .before .before .before .before .before .before .before .before .place11 .ensures, c .before .before .before .before .before .before .before .before .before .before .before .before .before .before .before .before .before .before .before .before .place10 .ensures, c .before .before .before .before .before .before .before .before .before .before .before .before .before .before .before .before .before .before .before .before .before .before .place9 .ensures, c .before .before .before .before .before .before .before .before .before .before .before .before .before .before .before .before .before .before .before .before .before .before .before .before .place8 .ensures, c .before .before .before .before .before .before .before .before .before .before .before .before .before .before .before .before .before .before .before .before .before .before .before .before .before .before .place7 .ensures, c .before .before .before .before .before .before .before .before .before .before .before .before .before .before .before .before .before .before .before .before .before .before .before .before .before .before .before .before .place6 .ensures, c .before .before .before .before .before .before .before .before .before .before .before .before .before .before .before .before .before .before .before .before .before .before .before .before .before .before .before .before .before .before .place5 .ensures, c .before .before .before .before .before .before .before .before .before .before .before .before .before .before .before .before .before .before .before .before .before .before .before .before .before .before .before .before .before .before .before .before .place4 .ensures, c .before .before .before .before .before .before .before .before .before .before .before .before .before .before .before .before .before .before .before .before .before .before .before .before .before .before .before .before .before .before .before .before .before .before .place3 .ensures, c .before .before .before .before .before .before .before .before .before .before .before .before .before .before .before .before .before .before .before .before .before .before .before .before .before .before .before .before .before .before .before .before .before .before .before .before .place2 .ensures, c .before .before .before .before .before .before .before .before .before .before .before .before .before .before .before .before .before .before .before .before .before .before .before .before .before .before .before .before .before .before .before .before .before .before .before .before .before .before .place .ensures)
+returns c =
+    let sph : tie.After-place19 = c .before .before in
+    let rp : tie.After-place18 = sph .before .before in
+    let flags : tie.After-place17 = rp .before .before in
+    let imr : tie.After-place16 = flags .before .before in
+    let irq : tie.After-place15 = imr .before .before in
+    let ipr : tie.After-place14 = irq .before .before in
+    let p01m : tie.After-place13 = ipr .before .before in
+    let p3m : tie.After-place12 = p01m .before .before in
+    let p2m : tie.After-place11 = p3m .before .before in
+    let pre0 : tie.After-place10 = p2m .before .before in
+    let t0 : tie.After-place9 = pre0 .before .before in
+    let pre1 : tie.After-place8 = t0 .before .before in
+    let t1 : tie.After-place7 = pre1 .before .before in
+    let tmr : tie.After-place6 = t1 .before .before in
+    let sio : tie.After-place5 = tmr .before .before in
+    let port3 : tie.After-place4 = sio .before .before in
+    let port2 : tie.After-place3 = port3 .before .before in
+    let port1 : tie.After-place2 = port2 .before .before in
+    let port0 : tie.After-place = port1 .before .before in
+    rw (c .place20 .ensures, sph .place19 .ensures, rp .place18 .ensures, flags .place17 .ensures, imr .place16 .ensures)
+    (rw (irq .place15 .ensures, ipr .place14 .ensures, p01m .place13 .ensures, p3m .place12 .ensures, p2m .place11 .ensures)
+    (rw (pre0 .place10 .ensures, t0 .place9 .ensures, pre1 .place8 .ensures, t1 .place7 .ensures, tmr .place6 .ensures)
+    (rw (sio .place5 .ensures, port3 .place4 .ensures, port2 .place3 .ensures, port1 .place2 .ensures, port0 .place .ensures))))
 
 pub reset-places-spec : {M : Type 1} → statement M
 reset-places-spec =
