@@ -214,7 +214,8 @@ returns-7 c =
 
 returns-8 : tie.Need-returns-8
 returns-8 c =
-    ldc-out _ _ (ready (c .before)) (c .match .keys8)
+    let read : tie.After-read-pair = c .before in
+    ldc-out _ _ (ready read) (c .match .keys8)
 
 returns-9 : tie.Need-returns-9
 returns-9 c =

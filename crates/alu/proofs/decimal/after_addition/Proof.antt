@@ -100,56 +100,72 @@ by-requires-2 c κs = search needs
 
 returns-2 : tie.Need-returns-2
 unfolding from2
-returns-2 c = simp (c .by2 .ensures, past1 (c .before .before), c .before .if2 .taken)
+returns-2 c =
+    let left : tie.Else1 = c .before .before in
+    simp (c .by2 .ensures, past1 left, c .before .if2 .taken)
 
 by-requires-3 : tie.Need-by-requires-3
 by-requires-3 c κs = search needs
 
 returns-3 : tie.Need-returns-3
 unfolding from3
-returns-3 c = simp (c .by3 .ensures, past2 (c .before .before), c .before .if3 .taken)
+returns-3 c =
+    let left : tie.Else2 = c .before .before in
+    simp (c .by3 .ensures, past2 left, c .before .if3 .taken)
 
 by-requires-4 : tie.Need-by-requires-4
 by-requires-4 c κs = search needs
 
 returns-4 : tie.Need-returns-4
 unfolding from4
-returns-4 c = simp (c .by4 .ensures, past3 (c .before .before), c .before .if4 .taken)
+returns-4 c =
+    let left : tie.Else3 = c .before .before in
+    simp (c .by4 .ensures, past3 left, c .before .if4 .taken)
 
 by-requires-5 : tie.Need-by-requires-5
 by-requires-5 c κs = search needs
 
 returns-5 : tie.Need-returns-5
 unfolding from5
-returns-5 c = simp (c .by5 .ensures, past4 (c .before .before), c .before .if5 .taken)
+returns-5 c =
+    let left : tie.Else4 = c .before .before in
+    simp (c .by5 .ensures, past4 left, c .before .if5 .taken)
 
 by-requires-6 : tie.Need-by-requires-6
 by-requires-6 c κs = search needs
 
 returns-6 : tie.Need-returns-6
 unfolding from6
-returns-6 c = simp (c .by6 .ensures, past5 (c .before .before), c .before .if6 .taken)
+returns-6 c =
+    let left : tie.Else5 = c .before .before in
+    simp (c .by6 .ensures, past5 left, c .before .if6 .taken)
 
 by-requires-7 : tie.Need-by-requires-7
 by-requires-7 c κs = search needs
 
 returns-7 : tie.Need-returns-7
 unfolding from7
-returns-7 c = simp (c .by7 .ensures, past6 (c .before .before), c .before .if7 .taken)
+returns-7 c =
+    let left : tie.Else6 = c .before .before in
+    simp (c .by7 .ensures, past6 left, c .before .if7 .taken)
 
 by-requires-8 : tie.Need-by-requires-8
 by-requires-8 c κs = search needs
 
 returns-8 : tie.Need-returns-8
 unfolding from8
-returns-8 c = simp (c .by8 .ensures, past7 (c .before .before), c .before .if8 .taken)
+returns-8 c =
+    let left : tie.Else7 = c .before .before in
+    simp (c .by8 .ensures, past7 left, c .before .if8 .taken)
 
 by-requires-9 : tie.Need-by-requires-9
 by-requires-9 c κs = search needs
 
 returns-9 : tie.Need-returns-9
 unfolding from9
-returns-9 c = simp (c .by9 .ensures, past8 (c .before .before), c .before .if9 .taken)
+returns-9 c =
+    let left : tie.Else8 = c .before .before in
+    simp (c .by9 .ensures, past8 left, c .before .if9 .taken)
 
 returns-10 : tie.Need-returns-10
 returns-10 c = sym (past9 c)

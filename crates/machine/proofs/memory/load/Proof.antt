@@ -37,13 +37,15 @@ shared-slice-read-result c = search needs
 returns-2 : tie.Need-returns-2
 returns-2 c =
     let inside : tie.Then2 = c .before in
-    let st : tie.Start = inside .before .before .before .before in
-    within _ (st .args .mem .now) _ (from (inside .before)) (inside .if2 .taken)
+    let data-memory : tie.Else1 = inside .before in
+    let st : tie.Start = data-memory .before .before .before in
+    within _ (st .args .mem .now) _ (from data-memory) (inside .if2 .taken)
 
 returns-3 : tie.Need-returns-3
 returns-3 c =
-    let st : tie.Start = c .before .before .before .before in
-    past _ (st .args .mem .now) _ (from (c .before)) (c .if2 .left)
+    let data-memory : tie.Else1 = c .before in
+    let st : tie.Start = data-memory .before .before .before in
+    past _ (st .args .mem .now) _ (from data-memory) (c .if2 .left)
 
 pub load-spec : {M : Type 1} → statement M
 load-spec =

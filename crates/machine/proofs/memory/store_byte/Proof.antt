@@ -38,12 +38,15 @@ same-length : tie.Need-same-length
 same-length c = search needs
 
 returns-2 : tie.Need-returns-2
-returns-2 c = within _ _ _ _ (from (c .before))
+returns-2 c =
+    let data-memory : tie.Else1 = c .before in
+    within _ _ _ _ (from data-memory)
 
 returns-3 : tie.Need-returns-3
 returns-3 c =
-    let st : tie.Start = c .before .before .before .before in
-    past _ (st .args .mem .now) _ _ (from (c .before)) (c .if2 .left)
+    let data-memory : tie.Else1 = c .before in
+    let st : tie.Start = data-memory .before .before .before in
+    past _ (st .args .mem .now) _ _ (from data-memory) (c .if2 .left)
 
 pub store-byte-spec : {M : Type 1} → statement M
 store-byte-spec =

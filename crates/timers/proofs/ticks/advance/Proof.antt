@@ -41,7 +41,8 @@ ticks-in-requires c κs = search needs
 
 sub-past : tie.Need-sub-past
 sub-past c =
-    far (c .before) .1
+    let many : tie.Else1 = c .before in
+    far many .1
 
 down-requires : tie.Need-down-requires
 down-requires c κs = search needs
