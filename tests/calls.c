@@ -575,6 +575,21 @@ static void check_random_bytes(void)
     }
 }
 
+/* A legal machine of every length but its own. */
+static void check_every_length(void)
+{
+    uint8_t saved[600];
+    size_t length;
+    char what[60];
+
+    memset(saved, 0, sizeof saved);
+    base_machine(saved);
+    for (length = 0; length <= sizeof saved; length++) {
+        sprintf(what, "z8_check with length %lu", (unsigned long)length);
+        check_number((unsigned long)ref_check(saved, length), z8_check(saved, length), what);
+    }
+}
+
 /* ---- Lengths and numbers at their limits ---- */
 
 static void check_lengths_that_are_fine(void)
@@ -1363,6 +1378,7 @@ int main(void)
     check_all_faults();
     check_every_value_of_every_place();
     check_random_bytes();
+    check_every_length();
     check_lengths_that_are_fine();
     check_makings();
     check_resets();

@@ -2,8 +2,8 @@
 
    Usage: compare SEED COUNT IMAGE...
    COUNT is the number of drawn steps; the drawn runs, spans and checks go with it. The values of the
-   arithmetic, the operand bytes and the written programs are gone through whole, whatever COUNT. The images
-   are run from reset. */
+   arithmetic, the operand bytes, the registers, the ports' modes, the memories' edges and the written programs
+   are gone through whole, whatever COUNT. The images are run from reset. */
 #include <stdio.h>
 #include <stdlib.h>
 #include <string.h>
@@ -61,8 +61,14 @@ enum kind {
     STACK_ON_SPECIAL,
     SPL_WRAPS,
     SP_WRAPS,
+    STACK_OVER_DATA_START,
+    STACK_OVER_LENT_END,
     DATA_STORES,
     DATA_DROPS,
+    DATA_LOADS,
+    DATA_LOADS_OUTSIDE,
+    PROGRAM_LOADS,
+    PROGRAM_LOADS_AT_END,
     PAST_IMAGE,
     PC_WRAPS,
     EX_OPERANDS,
@@ -74,26 +80,72 @@ enum kind {
     RP_STORED,
     NO_IMAGE,
     NO_DATA,
+    RUN_ENDS,
+    RUNS_OVER,
+    RUNS_STOPPED,
+    RUNS_STOPPED_AT_ONCE,
+    SPAN_T0_ENDS,
+    SPAN_T1_ENDS,
+    SPANS_WITHOUT_END,
+    SPAN_SINGLE_PASSES,
+    SPAN_T_OUT_FLIPS,
+    SPANS_GATED,
+    MACHINES_REFUSED,
+    MACHINES_PASSED,
     KINDS
 };
 
 static const char *const kind_names[KINDS] = {
-    "grants",           "reserved orders",
-    "refusals 5",       "edges",
-    "edge ends",        "T0 ends",
-    "T1 ends",          "both end",
-    "many ends",        "single passes",
-    "T_OUT flips",      "gate high",
-    "gate low",         "TMR loads",
-    "internal stack",   "external stack",
-    "stack on special", "SPL wraps",
-    "SP wraps",         "data stores",
-    "data drops",       "fetches past image",
-    "PC wraps",         "Ex operands",
-    "special operands", "holes",
-    "DA in no row",     "jumps",
-    "FLAGS stored",     "RP stored",
-    "no image",         "no data",
+    "grants",
+    "reserved orders",
+    "refusals 5",
+    "edges",
+    "edge ends",
+    "T0 ends",
+    "T1 ends",
+    "both end",
+    "many ends",
+    "single passes",
+    "T_OUT flips",
+    "gate high",
+    "gate low",
+    "TMR loads",
+    "internal stack",
+    "external stack",
+    "stack on special",
+    "SPL wraps",
+    "SP wraps",
+    "stack over data memory's beginning",
+    "stack over the lent memory's end",
+    "data stores",
+    "data drops",
+    "data loads",
+    "data loads outside",
+    "program loads",
+    "program loads at the image's end",
+    "fetches past image",
+    "PC wraps",
+    "Ex operands",
+    "special operands",
+    "holes",
+    "DA in no row",
+    "jumps",
+    "FLAGS stored",
+    "RP stored",
+    "no image",
+    "no data",
+    "runs with ends",
+    "runs over their budget",
+    "runs stopped by 5",
+    "runs stopped at once",
+    "spans to ends of T0",
+    "spans to ends of T1",
+    "spans without an end",
+    "spans over a single pass",
+    "spans that flip T_OUT",
+    "spans with a closed gate",
+    "machines refused",
+    "machines passed",
 };
 
 static unsigned long happened[KINDS];
@@ -180,6 +232,24 @@ static int stack_is_internal(const struct given *g)
     return (g->saved[P01M] & 4) != 0;
 }
 
+/* 01: "Data addresses under 2,048 (type 1) or 4,096 (type 11)". */
+static unsigned data_start(const struct given *g)
+{
+    return g->saved[Z8_AT_TYPE] == 1 ? 2048 : 4096;
+}
+
+/* Bytes pushed or popped on both sides of an edge of data memory. */
+static void see_stack_in_data(const struct given *g, unsigned before, unsigned after)
+{
+    unsigned low = before < after ? before : after, high = before < after ? after : before;
+
+    if (high - low > 3) {
+        return;
+    }
+    saw(STACK_OVER_DATA_START, low < data_start(g) && data_start(g) < high && high <= g->data_length);
+    saw(STACK_OVER_LENT_END, data_start(g) <= low && low < g->data_length && g->data_length < high);
+}
+
 static void see_stack(const struct given *g, const struct outcome *after)
 {
     int low_moved_far = abs(after->saved[SPL] - g->saved[SPL]) > 128;
@@ -193,6 +263,9 @@ static void see_stack(const struct given *g, const struct outcome *after)
     saw(STACK_ON_SPECIAL, stack_is_internal(g) && (g->saved[SPL] < 4 || g->saved[SPL] >= 0x80));
     saw(SPL_WRAPS, stack_is_internal(g) && low_moved_far);
     saw(SP_WRAPS, !stack_is_internal(g) && high_moved_far);
+    if (!stack_is_internal(g)) {
+        see_stack_in_data(g, word_at(g->saved + SPH), word_at(after->saved + SPH));
+    }
 }
 
 static int writes_data_by_instruction(unsigned opcode)
@@ -205,6 +278,29 @@ static int can_store_data(const struct given *g)
 {
     return writes_data_by_instruction(opcode_of(g))
            || (!stack_is_internal(g) && (is_stack_instruction(opcode_of(g)) || (g->saved[IMR] & 0x80)));
+}
+
+/* LDC, LDCI, LDE, LDEI from a memory: the address in a pair of plain registers. */
+static void see_loads(const struct given *g)
+{
+    unsigned opcode = opcode_of(g);
+    unsigned operand = ref_program(g->image, g->image_length, (uint16_t)(pc_of(g) + 1));
+    unsigned pair = (g->saved[RP] & 0xF0u) + (operand & 0x0E), address;
+
+    if (asks_for_grant(g) || pair < 4 || pair >= 0x80) {
+        return;
+    }
+    address = word_at(g->saved + pair);
+    if (opcode == 0x82 || opcode == 0x83) {
+        int lent = data_start(g) <= address && address < g->data_length;
+
+        saw(DATA_LOADS, lent);
+        saw(DATA_LOADS_OUTSIDE, !lent);
+    }
+    if (opcode == 0xC2 || opcode == 0xC3) {
+        saw(PROGRAM_LOADS, address < g->image_length);
+        saw(PROGRAM_LOADS_AT_END, address == g->image_length || address + 1 == g->image_length);
+    }
 }
 
 static void see_data(const struct given *g, const struct outcome *after)
@@ -247,7 +343,29 @@ static void see_step(const struct given *g, const struct outcome *after)
     see_timers(g, after);
     see_stack(g, after);
     see_data(g, after);
+    see_loads(g);
     see_instruction(g, after);
+}
+
+static void see_run(const struct given *g, const struct outcome *after)
+{
+    saw(RUN_ENDS, after->ends0 > 0 && after->ends1 > 0 && after->ends0 != after->ends1);
+    saw(RUNS_OVER, after->answer == 0 && after->cycles > g->amount);
+    saw(RUNS_STOPPED, after->answer == 5 && after->cycles > 0);
+    saw(RUNS_STOPPED_AT_ONCE, after->answer == 5 && after->cycles == 0);
+}
+
+static void see_span(const struct given *g, const struct outcome *after)
+{
+    int gated = !(g->saved[PRE1] & 2) && (g->saved[TMR] & 0x30) == 0x10 && (g->saved[TMR] & 8);
+
+    saw(SPAN_T0_ENDS, after->ends0 > 0);
+    saw(SPAN_T1_ENDS, after->ends1 > 0);
+    saw(SPANS_WITHOUT_END, after->ends0 + after->ends1 == 0);
+    saw(SPAN_SINGLE_PASSES,
+        (after->ends0 && !(g->saved[PRE0] & 1)) || (after->ends1 && !(g->saved[PRE1] & 1)));
+    saw(SPAN_T_OUT_FLIPS, after->saved[Z8_AT_T_OUT] != g->saved[Z8_AT_T_OUT]);
+    saw(SPANS_GATED, gated && !(g->saved[Z8_AT_PORT3] & 2));
 }
 
 #define COUNT_WHERE_ALL_HAPPENS 100000ul
@@ -256,7 +374,7 @@ static void tell_what_happened(unsigned long count)
 {
     int kind;
 
-    printf("compare: of the drawn steps:");
+    printf("compare: of what was drawn:");
     for (kind = 0; kind < KINDS; kind++) {
         printf("%s %lu %s", kind == 0 ? "" : ",", happened[kind], kind_names[kind]);
     }
@@ -342,23 +460,23 @@ static uint32_t draw_data_length(struct dice *d)
     return one_in(d, 3) ? below(d, 65537) : one_of(d, lengths, sizeof lengths / sizeof lengths[0]);
 }
 
-/* Mostly a whole image; else none, a short one, or one that ends at or within the instruction. */
-static uint32_t draw_image_length(struct dice *d, unsigned pc)
+static uint32_t draw_image_length(struct dice *d)
 {
-    switch (below(d, 16)) {
+    switch (below(d, 8)) {
     case 0:
-        return 0;
-    case 1:
         return below(d, 16);
+    case 1:
     case 2:
         return below(d, 65537);
-    case 3:
-    case 4:
-        pc += below(d, 4);
-        return pc > MEMORY ? MEMORY : pc;
     default:
         return MEMORY;
     }
+}
+
+static void set_pc(struct given *g, unsigned pc)
+{
+    g->saved[Z8_AT_PC] = (uint8_t)(pc / 256);
+    g->saved[Z8_AT_PC + 1] = (uint8_t)pc;
 }
 
 /* Opcodes that meet more than one rule of 01 at once, and so are drawn more often. */
@@ -407,12 +525,15 @@ static void draw_surroundings(struct dice *d, struct given *g)
     memset(g, 0, sizeof *g);
     lean.requests = one_in(d, 4);
     lean.data_length = draw_data_length(d);
-    lean.image_length = MEMORY;
+    lean.image_length = draw_image_length(d);
     draw_machine(d, &lean, g->saved);
+    if (one_in(d, 8)) {
+        set_pc(g, lean.image_length - below(d, 4)); /* the image ends at or within the instruction */
+    }
     g->seed = seed;
     g->data_length = lean.data_length;
     g->data = lean.data_length == 0 && one_in(d, 2) ? NULL : first_memory.bytes;
-    g->image_length = draw_image_length(d, pc_of(g));
+    g->image_length = lean.image_length;
     g->image = g->image_length == 0 && one_in(d, 2) ? NULL : image;
     draw_pins(d, g);
 }
@@ -464,6 +585,17 @@ static void compare_drawn_steps(unsigned long count)
     compare_whole_memories();
 }
 
+/* A drawn machine that executes what is put at its program counter. */
+static void draw_executing(struct dice *d, struct given *g, const char *call, unsigned long number)
+{
+    draw_surroundings(d, g);
+    g->call = call;
+    g->number = number;
+    g->saved[IMR] &= 0x7F;
+    g->image = image;
+    g->image_length = MEMORY;
+}
+
 /* Every first and every second operand byte with every opcode. */
 static void compare_operand_bytes(void)
 {
@@ -475,18 +607,90 @@ static void compare_operand_bytes(void)
         uint8_t bytes[3];
 
         dice_for_case(&d, seed + 1, number);
-        draw_surroundings(&d, &g);
-        g.call = "z8_step, an operand byte";
-        g.number = number;
-        g.saved[IMR] &= 0x7F; /* so that the instruction is executed */
-        if (g.image_length < MEMORY) {
-            g.image = image;
-            g.image_length = MEMORY;
-        }
+        draw_executing(&d, &g, "z8_step, an operand byte", number);
         draw_instruction(&d, number, bytes);
         bytes[0] = (uint8_t)number;
         bytes[number < 65536 ? 1 : 2] = (uint8_t)(number / 256);
         compare_instruction(&g, bytes);
+    }
+    compare_whole_memories();
+}
+
+/* ---- The registers, each by its address ---- */
+
+#define POINTER 0x40u /* a plain register */
+#define MACHINES_FOR_A_REGISTER 64u
+
+/* An address found in a register is taken as it is, so each of the 256 is reached: read, stored to, and
+   counted up as a pair. */
+static void compare_registers(void)
+{
+    unsigned long number;
+
+    for (number = 0; number < 256 * MACHINES_FOR_A_REGISTER; number++) {
+        const uint8_t read[3] = {0xE5, POINTER, POINTER + 1}; /* LD %41,@%40 */
+        const uint8_t pair[3] = {0xA1, POINTER, 0};           /* INCW @%40 */
+        uint8_t store[3] = {0xE7, POINTER, 0};                /* LD @%40,#.. */
+        struct given g;
+        struct dice d;
+
+        dice_for_case(&d, seed + 10, number);
+        draw_executing(&d, &g, "z8_step, a register by its address", number);
+        g.saved[POINTER] = (uint8_t)number;
+        store[2] = any_byte(&d);
+        compare_instruction(&g, read);
+        compare_instruction(&g, store);
+        compare_instruction(&g, pair);
+    }
+}
+
+#define MACHINES_FOR_A_MODE 4u
+
+/* Every P01M with each port, read and stored to; P2M, latches and pins as they come. */
+static void compare_port_modes(void)
+{
+    unsigned long number;
+
+    for (number = 0; number < 256 * 4 * MACHINES_FOR_A_MODE; number++) {
+        uint8_t port = (uint8_t)(number / 256 % 4);
+        const uint8_t read[3] = {0xE4, port, POINTER}; /* LD %40,port */
+        uint8_t store[3] = {0xE6, port, 0};            /* LD port,#.. */
+        struct given g;
+        struct dice d;
+
+        dice_for_case(&d, seed + 11, number);
+        draw_executing(&d, &g, "z8_step, a port's mode", number);
+        g.saved[P01M] = (uint8_t)number;
+        store[2] = any_byte(&d);
+        compare_instruction(&g, read);
+        compare_instruction(&g, store);
+    }
+}
+
+static unsigned machines_for_control(unsigned address)
+{
+    return TMR <= address && address <= PRE0 ? 64 : 4; /* a store to the timers' registers meets their state */
+}
+
+/* Every byte stored to every control register. */
+static void compare_control_stores(void)
+{
+    unsigned address, value, machine;
+
+    for (address = 0xF0; address <= 0xFF; address++) {
+        for (value = 0; value < 256; value++) {
+            const uint8_t store[3] = {0xE6, (uint8_t)address, (uint8_t)value};
+
+            for (machine = 0; machine < machines_for_control(address); machine++) {
+                unsigned long number = (machine * 256ul + value) * 256 + address;
+                struct given g;
+                struct dice d;
+
+                dice_for_case(&d, seed + 12, number);
+                draw_executing(&d, &g, "z8_step, a byte stored to a control register", number);
+                compare_instruction(&g, store);
+            }
+        }
     }
     compare_whole_memories();
 }
@@ -587,7 +791,8 @@ static void compare_flag_values(void)
     }
 }
 
-/* DECW and INCW %14: all words. DJNZ r5 and the displacements: all bytes of both. */
+/* DECW and INCW %14: all words, on a FLAGS byte of zeros and on one of ones. DJNZ r5 and the displacements:
+   all bytes of both. */
 static void compare_word_values(void)
 {
     uint8_t program[14] = {0};
@@ -603,7 +808,8 @@ static void compare_word_values(void)
         for (word = 0; word < 65536; word++) {
             g.saved[0x14] = (uint8_t)(word / 256);
             g.saved[0x15] = (uint8_t)word;
-            compare_values(&g, (uint8_t)((word + word / 256) % 2 ? 0xFF : 0x00));
+            compare_values(&g, 0x00);
+            compare_values(&g, 0xFF);
         }
     }
     program[12] = 0x5A;
@@ -641,6 +847,76 @@ static void compare_priorities(void)
             compare_values(&g, 0xAA);
         }
     }
+}
+
+/* ---- The memories' edges ---- */
+
+#define EDGE_PC 0x0200u
+
+/* With RR2 and the external stack pointer at that address: what loads, stores, pushes and pops there. */
+static void compare_at_address(struct given *g, unsigned address)
+{
+    static const uint8_t instructions[][3] = {
+        {0x82, 0x42, 0},       /* LDE R4,@RR2 */
+        {0x92, 0x42, 0},       /* LDE @RR2,R4 */
+        {0xC2, 0x42, 0},       /* LDC R4,@RR2 */
+        {0x70, 0x14, 0},       /* PUSH %14 */
+        {0x50, 0x15, 0},       /* POP %15 */
+        {0xD6, 0x12, 0x34},    /* CALL %1234 */
+        {0xAF, 0, 0},          /* RET */
+        {0xBF, 0, 0},          /* IRET */
+    };
+    size_t k;
+
+    g->saved[0x12] = g->saved[SPH] = (uint8_t)(address / 256);
+    g->saved[0x13] = g->saved[SPL] = (uint8_t)address;
+    g->saved[IRQ] = g->saved[IMR] = 0;
+    for (k = 0; k < sizeof instructions / sizeof instructions[0]; k++) {
+        compare_instruction(g, instructions[k]);
+        g->number++;
+    }
+    g->saved[IRQ] = 0x01; /* an interrupt's entry */
+    g->saved[IMR] = 0x81;
+    compare_instruction(g, instructions[0]);
+    g->number++;
+}
+
+/* As much data memory, and so long an image, with each address about each end. */
+static void compare_edges_of(struct given *g, uint32_t length)
+{
+    const uint32_t edges[] = {0, 2048, 4096, length, 65536};
+    unsigned edge, near;
+
+    g->data = first_memory.bytes;
+    g->data_length = length;
+    g->image = image;
+    g->image_length = length > EDGE_PC + 3 ? length : MEMORY;
+    for (edge = 0; edge < sizeof edges / sizeof edges[0]; edge++) {
+        for (near = 0; near < 9; near++) {
+            compare_at_address(g, (edges[edge] + near + 65532) % 65536);
+        }
+    }
+}
+
+static void compare_memory_edges(void)
+{
+    static const uint32_t lengths[] = {0,    1,    100,  2047, 2048, 2049,  2050,
+                                       4095, 4096, 4097, 4098, 4200, 65535, 65536};
+    struct given g;
+    size_t k;
+
+    plain_machine(&g, "z8_step, at an edge of a memory");
+    set_pc(&g, EDGE_PC);
+    g.saved[P01M] = 0;
+    g.saved[IPR] = 0x08;
+    g.saved[0x14] = 0xC7;
+    for (k = 0; k < sizeof lengths / sizeof lengths[0]; k++) {
+        g.saved[Z8_AT_TYPE] = Z8_TYPE_Z8601;
+        compare_edges_of(&g, lengths[k]);
+        g.saved[Z8_AT_TYPE] = Z8_TYPE_Z8611;
+        compare_edges_of(&g, lengths[k]);
+    }
+    compare_whole_memories();
 }
 
 /* ---- Runs ---- */
@@ -683,28 +959,28 @@ static void compare_drawn_runs(unsigned long count)
         g.image_length = 16 + below(&d, 1000);
         draw_program(&d, program, g.image_length);
         if (!one_in(&d, 8)) {
-            unsigned pc = below(&d, (uint32_t)g.image_length);
-
-            g.saved[Z8_AT_PC] = (uint8_t)(pc / 256);
-            g.saved[Z8_AT_PC + 1] = (uint8_t)pc;
+            set_pc(&g, below(&d, (uint32_t)g.image_length));
         }
         for (slice = 0; slice < 4; slice++) {
             g.amount = draw_budget(&d);
             draw_pins(&d, &g);
             note(agree(&g, run_of_reference, run_of_library, 1, &expected));
+            see_run(&g, &expected);
             memcpy(g.saved, expected.saved, Z8_SAVED_LEN);
         }
         restore_memories();
     }
 }
 
-/* 01, edges to run: "budget 1,000,000 and 1,000,001". */
+/* 01, edges to run: "budget 1,000,000 and 1,000,001". A jump to itself, and NOPs all over program memory, with
+   timers and interrupts as they come. */
 static void compare_budgets_at_the_limit(void)
 {
     static const uint8_t program[14] = {[12] = 0x8B, 0xFE}; /* JR to itself */
-    static const uint32_t budgets[] = {999999, 1000000, 1000001, 4294967295u};
+    static const uint32_t budgets[] = {999998, 999999, 1000000, 1000001, 1000002, 1000003, 4294967295u};
     struct outcome expected;
     struct given g;
+    struct dice d;
     size_t k;
 
     for (k = 0; k < sizeof budgets / sizeof budgets[0]; k++) {
@@ -714,6 +990,16 @@ static void compare_budgets_at_the_limit(void)
         g.image_length = sizeof program;
         g.amount = budgets[k];
         note(agree(&g, run_of_reference, run_of_library, 0, &expected));
+
+        dice_for_case(&d, seed + 13, k);
+        draw_surroundings(&d, &g);
+        g.call = "z8_run, a budget at the limit, of a drawn machine";
+        g.number = k;
+        g.image = NULL;
+        g.image_length = 0;
+        g.amount = budgets[k];
+        note(agree(&g, run_of_reference, run_of_library, 1, &expected));
+        restore_memories();
     }
 }
 
@@ -799,6 +1085,7 @@ static void compare_spans(unsigned long count, uint32_t longest, const char *cal
         g.number = number;
         g.amount = below(&d, 1 + (one_in(&d, 4) ? 64 : longest));
         note(agree(&g, span_of_reference, span_of_library, 0, &expected));
+        see_span(&g, &expected);
     }
 }
 
@@ -869,6 +1156,8 @@ static void compare_checks_and_resets(unsigned long count)
         draw_checked_machine(&d, &g, number);
         g.call = "z8_check";
         note(agree(&g, check_of_reference, check_of_library, 0, &expected));
+        saw(MACHINES_REFUSED, expected.answer == 6);
+        saw(MACHINES_PASSED, expected.answer == 0);
         g.call = "z8_reset";
         note(agree(&g, reset_of_reference, reset_of_library, 0, &expected));
     }
@@ -939,18 +1228,22 @@ int main(int argc, char **argv)
 
     compare_drawn_steps(count);
     compare_operand_bytes();
+    compare_registers();
+    compare_port_modes();
+    compare_control_stores();
     compare_two_operand_values();
     compare_one_operand_values();
     compare_flag_values();
     compare_word_values();
     compare_priorities();
+    compare_memory_edges();
     compare_drawn_runs(1 + count / 20);
     compare_budgets_at_the_limit();
     compare_written_programs();
     for (k = 3; k < argc; k++) {
         compare_image_file(argv[k], (unsigned long)k);
     }
-    compare_spans(1 + count / 10, 2000, "z8_span, short");
+    compare_spans(1 + count / 8, 4096, "z8_span, short");
     compare_spans(1 + count / 10000, 3000000, "z8_span, long");
     compare_composed_spans(1 + count / 10);
     compare_checks_and_resets(1 + count / 4);
