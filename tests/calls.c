@@ -1355,6 +1355,104 @@ static void check_refusal_names(void)
     }
 }
 
+static void check_version(void)
+{
+    unsigned long version = z8_version();
+    char words[40];
+
+    check_number(Z8_VERSION_NUMBER, version, "z8_version and Z8_VERSION_NUMBER");
+    check_number(Z8_VERSION_MAJOR, version / 65536, "Z8_VERSION_MAJOR");
+    check_number(Z8_VERSION_MINOR, version / 256 % 256, "Z8_VERSION_MINOR");
+    check_number(Z8_VERSION_PATCH, version % 256, "Z8_VERSION_PATCH");
+    sprintf(words, "%lu.%lu.%lu", version / 65536, version / 256 % 256, version % 256);
+    check(strcmp(words, Z8_VERSION) == 0, "Z8_VERSION");
+}
+
+struct control_register {
+    unsigned name;
+    uint8_t number; /* 002: R241 to R255 */
+    uint8_t kept;   /* the bits that a store leaves there, by 01 */
+    const char *what;
+};
+
+static const struct control_register control_registers[] = {
+    {Z8_TMR, 241, 0xFA, "Z8_TMR"},     {Z8_T1, 242, 0xFF, "Z8_T1"},     {Z8_PRE1, 243, 0xFF, "Z8_PRE1"},
+    {Z8_T0, 244, 0xFF, "Z8_T0"},       {Z8_PRE0, 245, 0xFF, "Z8_PRE0"}, {Z8_P2M, 246, 0xFF, "Z8_P2M"},
+    {Z8_P3M, 247, 0xFF, "Z8_P3M"},     {Z8_P01M, 248, 0xFF, "Z8_P01M"}, {Z8_IPR, 249, 0xFF, "Z8_IPR"},
+    {Z8_IRQ, 250, 0x3F, "Z8_IRQ"},     {Z8_IMR, 251, 0xFF, "Z8_IMR"},   {Z8_FLAGS, 252, 0xFF, "Z8_FLAGS"},
+    {Z8_RP, 253, 0xF0, "Z8_RP"},       {Z8_SPH, 254, 0xFF, "Z8_SPH"},   {Z8_SPL, 255, 0xFF, "Z8_SPL"},
+};
+
+/* A byte that the program stores to the register of that number is where the header's name says. */
+static void check_register_names(void)
+{
+    const uint8_t byte = 0x7A;
+    uint8_t m[Z8_SAVED_LEN];
+    unsigned address;
+    size_t k;
+
+    for (k = 0; k < sizeof control_registers / sizeof control_registers[0]; k++) {
+        const struct control_register *r = &control_registers[k];
+        const uint8_t program[3] = {0xE6, r->number, byte};
+
+        z8_make_default(m, Z8_SAVED_LEN);
+        steps_of(m, program, sizeof program, 1, 0xFF);
+        check_number(byte & r->kept, m[Z8_AT_REGISTERS + r->name], r->what);
+    }
+    /* A store to F0 is dropped, so that it is known by being the one that has to be zero. */
+    for (address = 0xF0; address <= 0xFF; address++) {
+        z8_make_default(m, Z8_SAVED_LEN);
+        m[Z8_AT_REGISTERS + address] = 0x10;
+        check_number(address == Z8_SIO ? Z8_REFUSED_MACHINE : Z8_OK, z8_check(m, Z8_SAVED_LEN), "Z8_SIO");
+    }
+}
+
+struct flags_example {
+    const char *words;
+    uint8_t bytes[2]; /* R5 is the destination, R6 the source */
+    uint8_t dst, src, flags_before;
+    unsigned flags_after;
+};
+
+static const struct flags_example flags_examples[] = {
+    {"SCF: Z8_FLAG_C", {0xDF, 0}, 0, 0, 0, Z8_FLAG_C},
+    {"CP of equals: Z8_FLAG_Z", {0xA2, 0x56}, 7, 7, 0, Z8_FLAG_Z},
+    {"80 OR 00: Z8_FLAG_S", {0x42, 0x56}, 0x80, 0, 0, Z8_FLAG_S},
+    {"INC 7F: Z8_FLAG_S and Z8_FLAG_V", {0x20, 0xE5}, 0x7F, 0, 0, Z8_FLAG_S | Z8_FLAG_V},
+    {"05 - 01: Z8_FLAG_D", {0x22, 0x56}, 5, 1, 0, Z8_FLAG_D},
+    {"0F + 01: Z8_FLAG_H", {0x02, 0x56}, 0x0F, 1, 0, Z8_FLAG_H},
+    {"44 + 11 clears all but Z8_FLAG_F2 and Z8_FLAG_F1",
+     {0x02, 0x56}, 0x44, 0x11, 0xFF, Z8_FLAG_F2 | Z8_FLAG_F1},
+};
+
+static void check_flag_names(void)
+{
+    static const uint8_t rotate_flags[] = {0xE4, FLAGS, 0x15, 0xE0, 0x15}; /* LD %15,FLAGS  RR %15 */
+    uint8_t m[Z8_SAVED_LEN];
+    size_t k;
+
+    for (k = 0; k < sizeof flags_examples / sizeof flags_examples[0]; k++) {
+        const struct flags_example *e = &flags_examples[k];
+
+        z8_make_default(m, Z8_SAVED_LEN);
+        m[RP] = 0x10;
+        m[0x15] = e->dst;
+        m[0x16] = e->src;
+        m[FLAGS] = e->flags_before;
+        steps_of(m, e->bytes, 2, 1, 0xFF);
+        check_number(e->flags_after, m[FLAGS], e->words);
+    }
+    /* F1 is bit 0, which goes into C, and F2 isn't. */
+    z8_make_default(m, Z8_SAVED_LEN);
+    m[FLAGS] = Z8_FLAG_F1;
+    steps_of(m, rotate_flags, sizeof rotate_flags, 2, 0xFF);
+    check_number(Z8_FLAG_C, m[FLAGS] & Z8_FLAG_C, "Z8_FLAG_F1 rotated into C");
+    z8_make_default(m, Z8_SAVED_LEN);
+    m[FLAGS] = Z8_FLAG_F2;
+    steps_of(m, rotate_flags, sizeof rotate_flags, 2, 0xFF);
+    check_number(0, m[FLAGS] & Z8_FLAG_C, "Z8_FLAG_F2 not");
+}
+
 static void check_answer_texts(void)
 {
     static const uint32_t others[] = {9, 10, 256, 0x80000000u, 4294967295u};
@@ -1392,6 +1490,9 @@ int main(void)
     check_offsets();
     check_limits();
     check_refusal_names();
+    check_version();
+    check_register_names();
+    check_flag_names();
     check_answer_texts();
     printf("calls: %lu checks, %lu failed\n", checks, failed);
     return failed != 0;
