@@ -6,7 +6,8 @@ set datafile separator comma
 halls = sprintf("< awk -F, 'NR > 1 && $2 != \"Slipping core\"' '%s'", readings)
 slipping(basis) = sprintf("< awk -F, '$2 == \"Slipping core\" && $3 ~ /%s/' '%s'", basis, readings)
 # What is continued begins where counting ended, with the last reading that was counted.
-dashed = sprintf("< awk -F, '$2 == \"Slipping core\" && $3 == \"counted\" { last = $0 } $3 == \"continued\" { if (!begun++) print last; print }' '%s'", readings)
+dashed = sprintf("< awk -F, '$2 == \"Slipping core\" && $3 == \"counted\" { last = $0 } " \
+    . "$3 == \"continued\" { if (!begun++) print last; print }' '%s'", readings)
 minutes = 1; picture = 9; sound = 10; lip = 11
 continued = int(system(sprintf("grep -c ,continued, '%s'", readings)))
 
