@@ -1244,7 +1244,7 @@ int main(int argc, char **argv)
         compare_image_file(argv[k], (unsigned long)k);
     }
     compare_spans(1 + count / 8, 4096, "z8_span, short");
-    compare_spans(1 + count / 10000, 3000000, "z8_span, long");
+    compare_spans(1 + count / 2000, 1048576, "z8_span, long");
     compare_composed_spans(1 + count / 10);
     compare_checks_and_resets(1 + count / 4);
     compare_makings();
