@@ -5,6 +5,9 @@
 set datafile separator comma
 halls = sprintf("< awk -F, 'NR > 1 && $2 != \"Slipping core\"' '%s'", readings)
 slipping(basis) = sprintf("< awk -F, '$2 == \"Slipping core\" && $3 ~ /%s/' '%s'", basis, readings)
+# What is continued begins where counting ended, with the last reading that was counted.
+dashed = sprintf("< awk -F, '$2 == \"Slipping core\" && $3 == \"counted\" { last = $0 } " \
+    . "$3 == \"continued\" { if (!begun++) print last; print }' '%s'", readings)
 minutes = 1; picture = 9; sound = 10; lip = 11
 continued = int(system(sprintf("grep -c ,continued, '%s'", readings)))
 
@@ -59,6 +62,6 @@ set yrange [0 : behind > 0.01 ? 1.1 * behind : 1]
 set key at graph 0.01,0.99 left top vertical maxrows 3
 plot slipping("counted") using minutes:(column(picture) / 1000) with lines linewidth 8 linecolor rgb "#f0b7b0" title "pictures", \
      slipping("counted") using minutes:(column(sound) / 1000) with lines linewidth 2 linecolor rgb red title "sound: both timers slip alike", \
-     slipping(continued ? "continued" : "counted") using minutes:(column(sound) / 1000) with lines linewidth 2 dashtype 2 linecolor rgb red \
+     (continued ? dashed : slipping("counted")) using minutes:(column(sound) / 1000) with lines linewidth 2 dashtype 2 linecolor rgb red \
          title (continued ? "both, continued in a straight line" : "")
 unset multiplot

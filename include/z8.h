@@ -8,16 +8,17 @@
    The serial port, port handshake, bus timing and T1's trigger modes are not there: register F0 reads FF, P3M changes nothing, and T_IN
    modes 10 and 11 give T1 no ticks.
 
-   Every function is proved to give, for every input, the one answer that its definition allows (docs/PROMISES.md). What is asked of
-   you, because C can't be held to it:
+   Each call that libz8.a has, z8_version and z8_make to z8_span, is proved to give, for every input, the one answer that its definition
+   allows (docs/PROMISES.md). z8_answer_text, which is C in this header, and the constants are not proved: they are tested. What is asked
+   of you, because C can't be held to it:
 
      - a pointer to bytes points to as many as the length after it says; with length 0 it may be null;
-     - a pointer to a number points to one, and is never null;
+     - a pointer to a number points to one, and is never null; two outputs may not share one variable;
      - the bytes and numbers lent to one call don't overlap.
 
-   What a call answers is Z8_OK, or the number of a refusal. A refused call has changed no byte and no number that it was lent. The one
-   exception is a run refused with Z8_REFUSED_OPCODE: it leaves machine, data memory, cycles and ends as after the whole steps that
-   came before the undefined opcode (and cycles and ends 0 where there was none). */
+   What a call answers is Z8_OK, or the number of a refusal; z8_version alone refuses nothing, and answers the version. A refused call has
+   changed no byte and no number that it was lent. The one exception is a run refused with Z8_REFUSED_OPCODE: it leaves machine, data
+   memory, cycles and ends as after the whole steps that came before the undefined opcode (and cycles and ends 0 where there was none). */
 #ifndef Z8_H
 #define Z8_H
 
@@ -29,9 +30,13 @@ extern "C" {
 #endif
 
 #define Z8_VERSION_MAJOR 1
-#define Z8_VERSION_MINOR 0
+#define Z8_VERSION_MINOR 1
 #define Z8_VERSION_PATCH 0
-#define Z8_VERSION "1.0.0"
+#define Z8_VERSION "1.1.0"
+#define Z8_VERSION_NUMBER (65536u * Z8_VERSION_MAJOR + 256u * Z8_VERSION_MINOR + Z8_VERSION_PATCH)
+
+/* The library's own version: 65,536 x MAJOR + 256 x MINOR + PATCH. It is Z8_VERSION_NUMBER where library and header belong together. */
+uint32_t z8_version(void);
 
 /* ---- Answers. Where several would apply, the first in the order 7, 6, 1, 2, 3, 4, 5, 8 is given. ---- */
 
@@ -65,8 +70,8 @@ extern "C" {
    and F0 (hexadecimal) of the register file are zero, and so are bits 0 and 2 of TMR (F1), bits 6 and 7 of IRQ (FA) and bits 0 to 3 of
    RP (FD). Every machine that a call writes is legal.
 
-   Writing into these bytes is no register store. To start T0 by hand, say, set its start value (F4) and PRE0 (F5), its prescaler and counter
-   below, and its enable bit, bit 1 of TMR (F1). */
+   Writing into these bytes is no register store. To start T0 by hand, say, set its start value (Z8_T0) and Z8_PRE0, its prescaler and
+   counter, and its enable bit, bit 1 of Z8_TMR. */
 
 #define Z8_SAVED_LEN 268u
 
@@ -82,6 +87,36 @@ extern "C" {
 #define Z8_AT_TYPE 265u         /* Z8_TYPE_Z8601 or Z8_TYPE_Z8611 */
 #define Z8_AT_ENTRY_COST 266u   /* cycles of an interrupt's entry: 6 to 63 */
 #define Z8_AT_ZERO 267u         /* 0 */
+
+/* The control registers' addresses, by the data sheet's names: TMR, say, is machine[Z8_AT_REGISTERS + Z8_TMR]. */
+
+#define Z8_SIO 0xF0u   /* serial I/O: a hole, as the port is not there */
+#define Z8_TMR 0xF1u   /* timer mode */
+#define Z8_T1 0xF2u    /* T1's start value */
+#define Z8_PRE1 0xF3u  /* T1's prescaler register */
+#define Z8_T0 0xF4u    /* T0's start value */
+#define Z8_PRE0 0xF5u  /* T0's prescaler register */
+#define Z8_P2M 0xF6u   /* Port 2 mode */
+#define Z8_P3M 0xF7u   /* Port 3 mode */
+#define Z8_P01M 0xF8u  /* Ports 0 and 1 mode */
+#define Z8_IPR 0xF9u   /* interrupt priority */
+#define Z8_IRQ 0xFAu   /* interrupt request */
+#define Z8_IMR 0xFBu   /* interrupt mask */
+#define Z8_FLAGS 0xFCu /* flags */
+#define Z8_RP 0xFDu    /* register pointer */
+#define Z8_SPH 0xFEu   /* stack pointer, high byte */
+#define Z8_SPL 0xFFu   /* stack pointer, low byte */
+
+/* The bits of FLAGS. */
+
+#define Z8_FLAG_C 0x80u  /* carry */
+#define Z8_FLAG_Z 0x40u  /* zero */
+#define Z8_FLAG_S 0x20u  /* sign */
+#define Z8_FLAG_V 0x10u  /* overflow */
+#define Z8_FLAG_D 0x08u  /* decimal adjust */
+#define Z8_FLAG_H 0x04u  /* half carry */
+#define Z8_FLAG_F2 0x02u /* user flag 2 */
+#define Z8_FLAG_F1 0x01u /* user flag 1 */
 
 /* ---- Making, checking, resetting ---- */
 

@@ -575,6 +575,21 @@ static void check_random_bytes(void)
     }
 }
 
+/* A legal machine of every length but its own. */
+static void check_every_length(void)
+{
+    uint8_t saved[600];
+    size_t length;
+    char what[60];
+
+    memset(saved, 0, sizeof saved);
+    base_machine(saved);
+    for (length = 0; length <= sizeof saved; length++) {
+        sprintf(what, "z8_check with length %lu", (unsigned long)length);
+        check_number((unsigned long)ref_check(saved, length), z8_check(saved, length), what);
+    }
+}
+
 /* ---- Lengths and numbers at their limits ---- */
 
 static void check_lengths_that_are_fine(void)
@@ -681,8 +696,7 @@ static void check_lengths_past_32_bits(void)
     uint32_t cycles = UNTOUCHED, ends0 = UNTOUCHED, ends1 = UNTOUCHED;
     uint8_t opcode, first, second, bytes;
 
-    if (much == MAP_FAILED) {
-        printf("calls: no room for lengths past 32 bits, so these were left out\n");
+    if (!check(much != MAP_FAILED, "room for lengths past 32 bits")) {
         return;
     }
     base_call(&a);
@@ -1064,28 +1078,36 @@ static void check_vector(void)
 
 /* ---- 01's timers ---- */
 
-/* Both timers fresh from a load of P and N, repeating, T1 internal, counting. */
-static void fresh_timers(uint8_t *m, unsigned p, unsigned n, unsigned divider)
+enum timer { TIMER_0, TIMER_1 };
+
+/* That timer fresh from a load of P and N, repeating, T1 internal, counting. The other one is as it was. */
+static void fresh_timer(uint8_t *m, enum timer timer, unsigned p, unsigned n)
 {
-    z8_make_default(m, Z8_SAVED_LEN);
-    m[PRE0] = m[PRE1] = (uint8_t)(p * 4 + 3);
-    m[T0] = m[T1] = (uint8_t)n;
-    m[Z8_AT_T0_PRESCALER] = m[Z8_AT_T1_PRESCALER] = (uint8_t)p;
-    m[Z8_AT_T0_COUNTER] = m[Z8_AT_T1_COUNTER] = (uint8_t)n;
-    m[Z8_AT_DIVIDER] = (uint8_t)divider;
-    m[TMR] = 0x0A;
+    m[timer == TIMER_0 ? PRE0 : PRE1] = (uint8_t)(p * 4 + 3);
+    m[timer == TIMER_0 ? T0 : T1] = (uint8_t)n;
+    m[timer == TIMER_0 ? Z8_AT_T0_PRESCALER : Z8_AT_T1_PRESCALER] = (uint8_t)p;
+    m[timer == TIMER_0 ? Z8_AT_T0_COUNTER : Z8_AT_T1_COUNTER] = (uint8_t)n;
+    m[TMR] |= timer == TIMER_0 ? 0x02 : 0x08;
 }
 
+/* Each timer alone, so that an end of the other one would be seen. */
 static void check_ends(unsigned p, unsigned n, unsigned divider, uint32_t span, uint32_t ends,
                        const char *what)
 {
-    uint8_t m[Z8_SAVED_LEN];
-    uint32_t ends0 = UNTOUCHED, ends1 = UNTOUCHED;
+    int timer;
 
-    fresh_timers(m, p, n, divider);
-    check_number(0, z8_span(m, Z8_SAVED_LEN, span, &ends0, &ends1), what);
-    check_number(ends, ends0, what);
-    check_number(ends, ends1, what);
+    for (timer = TIMER_0; timer <= TIMER_1; timer++) {
+        uint8_t m[Z8_SAVED_LEN];
+        uint32_t ends0 = UNTOUCHED, ends1 = UNTOUCHED;
+
+        z8_make_default(m, Z8_SAVED_LEN);
+        fresh_timer(m, (enum timer)timer, p, n);
+        m[Z8_AT_DIVIDER] = (uint8_t)divider;
+        check_number(0, z8_span(m, Z8_SAVED_LEN, span, &ends0, &ends1), what);
+        check_number(timer == TIMER_0 ? ends : 0, ends0, what);
+        check_number(timer == TIMER_1 ? ends : 0, ends1, what);
+        check_number(ends == 0 ? 0 : timer == TIMER_0 ? 0x10 : 0x20, m[IRQ], what);
+    }
 }
 
 static void check_spans(void)
@@ -1102,20 +1124,34 @@ static void check_spans(void)
 }
 
 /* "Cycles already gone: divider + 4 x ((P - prescaler) + P x (N - counter))". */
+static uint32_t cycles_gone(const uint8_t *m, unsigned prescaler_at, unsigned counter_at, unsigned p,
+                            unsigned n)
+{
+    unsigned counter = m[counter_at] == 0 ? 256 : m[counter_at];
+
+    return m[Z8_AT_DIVIDER] + 4 * ((p - m[prescaler_at]) + p * (n - counter));
+}
+
+/* Both timers at once, with periods that differ. */
 static void check_cycles_gone(void)
 {
-    uint32_t gone, ends0, ends1;
+    const uint32_t period0 = 4 * 64 * 256, period1 = 4 * 61 * 200;
+    uint32_t span;
 
-    for (gone = 0; gone < 65536; gone += 1 + gone / 97) {
+    for (span = 0; span < 3 * period0; span += 1 + span / 97) {
         uint8_t m[Z8_SAVED_LEN];
-        uint32_t counter, formula;
+        uint32_t ends0, ends1;
 
-        fresh_timers(m, 64, 256, 0);
-        z8_span(m, Z8_SAVED_LEN, gone, &ends0, &ends1);
-        counter = m[Z8_AT_T0_COUNTER] == 0 ? 256 : m[Z8_AT_T0_COUNTER];
-        formula = m[Z8_AT_DIVIDER] + 4 * ((64u - m[Z8_AT_T0_PRESCALER]) + 64 * (256 - counter));
-        check_number(gone, formula, "cycles already gone");
-        check_number(m[Z8_AT_T0_COUNTER], m[Z8_AT_T1_COUNTER], "T1 as T0");
+        z8_make_default(m, Z8_SAVED_LEN);
+        fresh_timer(m, TIMER_0, 64, 256);
+        fresh_timer(m, TIMER_1, 61, 200);
+        z8_span(m, Z8_SAVED_LEN, span, &ends0, &ends1);
+        check_number(span % period0, cycles_gone(m, Z8_AT_T0_PRESCALER, Z8_AT_T0_COUNTER, 64, 256),
+                     "T0's cycles already gone");
+        check_number(span % period1, cycles_gone(m, Z8_AT_T1_PRESCALER, Z8_AT_T1_COUNTER, 61, 200),
+                     "T1's cycles already gone");
+        check_number(span / period0, ends0, "T0's ends");
+        check_number(span / period1, ends1, "T1's ends");
     }
 }
 
@@ -1127,14 +1163,17 @@ static void check_ticks(void)
     uint32_t cycles, ends0, ends1;
     int k;
 
-    fresh_timers(m, 64, 256, 0);
+    z8_make_default(m, Z8_SAVED_LEN);
+    fresh_timer(m, TIMER_0, 64, 256);
     for (k = 0; k < 4; k++) {
         z8_step(m, Z8_SAVED_LEN, NULL, 0, NULL, 0, 255, 255, 255, 255, &cycles, &ends0, &ends1);
         check_number(6, cycles, "NOP's cycles");
     }
     check_number(64 - 6, m[Z8_AT_T0_PRESCALER], "four 6-cycle instructions are six ticks");
 
-    fresh_timers(m, 64, 256, 3);
+    z8_make_default(m, Z8_SAVED_LEN);
+    fresh_timer(m, TIMER_0, 64, 256);
+    m[Z8_AT_DIVIDER] = 3;
     m[Z8_AT_PC + 1] = 0;
     m[Z8_AT_T0_PRESCALER] = 5;
     z8_step(m, Z8_SAVED_LEN, load, sizeof load, NULL, 0, 255, 255, 255, 255, &cycles, &ends0, &ends1);
@@ -1159,61 +1198,259 @@ static void check_01s_examples(void)
 
 /* ---- The header ---- */
 
-/* Each offset, against where the reference saves a value that is nowhere else. */
-static void check_offsets(void)
+/* Runs the bytes at 0000 on the machine for as many steps. */
+static void steps_of(uint8_t *m, const uint8_t *bytes, size_t length, int steps, uint8_t pins3)
 {
-    struct ref_machine m;
-    uint8_t saved[Z8_SAVED_LEN];
-    int k;
+    m[Z8_AT_PC] = m[Z8_AT_PC + 1] = 0;
+    while (steps-- > 0) {
+        uint32_t cycles, ends0, ends1;
 
-    check_number(REF_SAVED_LENGTH, Z8_SAVED_LEN, "Z8_SAVED_LEN");
-    ref_make(&m, 11, 63);
-    for (k = 0; k < 0x80; k++) {
-        m.file[k] = (uint8_t)(k + 0x80);
+        check_number(Z8_OK,
+                     z8_step(m, Z8_SAVED_LEN, bytes, length, NULL, 0, 255, 255, 255, pins3, &cycles, &ends0,
+                             &ends1),
+                     "a step");
     }
-    m.pc = 0x5152;
-    m.divider = 3;
-    m.prescaler0 = 41;
-    m.counter0 = 0x53;
-    m.prescaler1 = 42;
-    m.counter1 = 0x54;
-    m.port3 = 0x55;
-    m.tout = 1;
-    ref_save(&m, saved);
-    check_number(m.file[0x7F], saved[Z8_AT_REGISTERS + 0x7F], "Z8_AT_REGISTERS");
-    check_number(0x51, saved[Z8_AT_PC], "Z8_AT_PC");
-    check_number(0x52, saved[Z8_AT_PC + 1], "Z8_AT_PC, low byte");
-    check_number(3, saved[Z8_AT_DIVIDER], "Z8_AT_DIVIDER");
-    check_number(41, saved[Z8_AT_T0_PRESCALER], "Z8_AT_T0_PRESCALER");
-    check_number(0x53, saved[Z8_AT_T0_COUNTER], "Z8_AT_T0_COUNTER");
-    check_number(42, saved[Z8_AT_T1_PRESCALER], "Z8_AT_T1_PRESCALER");
-    check_number(0x54, saved[Z8_AT_T1_COUNTER], "Z8_AT_T1_COUNTER");
-    check_number(0x55, saved[Z8_AT_PORT3], "Z8_AT_PORT3");
-    check_number(1, saved[Z8_AT_T_OUT], "Z8_AT_T_OUT");
-    check_number(11, saved[Z8_AT_TYPE], "Z8_AT_TYPE");
-    check_number(63, saved[Z8_AT_ENTRY_COST], "Z8_AT_ENTRY_COST");
-    check_number(0, saved[Z8_AT_ZERO], "Z8_AT_ZERO");
-    check_number(Z8_SAVED_LEN - 1, Z8_AT_ZERO, "Z8_AT_ZERO is the last");
 }
 
-/* The header's limits, each at both its sides, against what the reference takes. */
+/* Each place of the saved machine that the header names, by what the library writes there. */
+static void check_offsets(void)
+{
+    static const uint8_t program[] = {
+        0xE6, 0x7F, 0xAB,          /* LD %7F,#%AB */
+        0xE6, PRE0, 41 * 4 + 1,    /* LD PRE0: P 41 */
+        0xE6, T0,   0x53,          /* LD T0 */
+        0xE6, PRE1, 42 * 4 + 3,    /* LD PRE1: P 42 */
+        0xE6, T1,   0x54,          /* LD T1 */
+        0xE6, TMR,  0x05,          /* LD TMR: both loaded, neither counts */
+        0x8D, 0x51, 0x52,          /* JP %5152 */
+    };
+    static const uint8_t start[] = {0xE6, TMR, 0x43}; /* LD TMR: T0 loaded, counting, at T_OUT */
+    uint8_t m[Z8_SAVED_LEN];
+    uint32_t ends0, ends1;
+
+    check_number(Z8_OK, z8_make(m, Z8_SAVED_LEN, 1, 63), "Z8_SAVED_LEN");
+    check_number(1, m[Z8_AT_TYPE], "Z8_AT_TYPE");
+    check_number(63, m[Z8_AT_ENTRY_COST], "Z8_AT_ENTRY_COST");
+    check_number(1, m[Z8_AT_T_OUT], "Z8_AT_T_OUT");
+    steps_of(m, program, sizeof program, 7, 0x55);
+    check_number(0xAB, m[Z8_AT_REGISTERS + 0x7F], "Z8_AT_REGISTERS");
+    check_number(0x51, m[Z8_AT_PC], "Z8_AT_PC");
+    check_number(0x52, m[Z8_AT_PC + 1], "Z8_AT_PC, low byte");
+    check_number((6 * 10 + 12) % 4, m[Z8_AT_DIVIDER], "Z8_AT_DIVIDER");
+    check_number(41, m[Z8_AT_T0_PRESCALER], "Z8_AT_T0_PRESCALER");
+    check_number(0x53, m[Z8_AT_T0_COUNTER], "Z8_AT_T0_COUNTER");
+    check_number(42, m[Z8_AT_T1_PRESCALER], "Z8_AT_T1_PRESCALER");
+    check_number(0x54, m[Z8_AT_T1_COUNTER], "Z8_AT_T1_COUNTER");
+    check_number(0x55, m[Z8_AT_PORT3], "Z8_AT_PORT3");
+    check_number(0, m[Z8_AT_ZERO], "Z8_AT_ZERO");
+
+    steps_of(m, start, sizeof start, 1, 0xFF);
+    check_number(Z8_OK, z8_span(m, Z8_SAVED_LEN, 4 * 41 * 0x53, &ends0, &ends1), "a span to T0's end");
+    check_number(0, m[Z8_AT_T_OUT], "Z8_AT_T_OUT, flipped");
+    z8_span(m, Z8_SAVED_LEN, 3, &ends0, &ends1);
+    check_number((10 + 4 * 41 * 0x53 + 3) % 4, m[Z8_AT_DIVIDER], "Z8_AT_DIVIDER, after a span");
+
+    m[Z8_AT_ZERO] = 1;
+    check_number(Z8_REFUSED_MACHINE, z8_check(m, Z8_SAVED_LEN), "Z8_AT_ZERO has to be 0");
+    check_number(Z8_REFUSED_LENGTH, z8_check(m, Z8_SAVED_LEN - 1), "a byte less than Z8_SAVED_LEN");
+    check_number(Z8_REFUSED_LENGTH, z8_check(m, Z8_SAVED_LEN + 1), "a byte more than Z8_SAVED_LEN");
+}
+
+/* Data memory that reads other than FF, by the types' names: LDE R4,@RR2 at an address and one below. */
+static void check_type(uint32_t type, unsigned begins)
+{
+    static const uint8_t program[] = {0x82, 0x42};
+    uint8_t m[Z8_SAVED_LEN];
+    struct arguments a;
+    unsigned below_it;
+
+    for (below_it = 0; below_it < 2; below_it++) {
+        uint32_t cycles, ends0, ends1;
+
+        base_call(&a);
+        check_number(Z8_OK, z8_make(m, Z8_SAVED_LEN, type, Z8_DEFAULT_ENTRY_COST), "a type of the header");
+        m[Z8_AT_PC + 1] = 0;
+        m[RP] = 0x10;
+        m[0x12] = (uint8_t)((begins - below_it) / 256);
+        m[0x13] = (uint8_t)(begins - below_it);
+        z8_step(m, Z8_SAVED_LEN, program, sizeof program, data_of(&a), a.data_length, 255, 255, 255, 255,
+                &cycles, &ends0, &ends1);
+        check_number(below_it ? 0xFF : 0x5A, m[0x14], "where data memory begins");
+    }
+}
+
+/* The header's limits, each at both its sides. */
 static void check_limits(void)
 {
-    struct ref_machine m;
+    uint8_t m[Z8_SAVED_LEN], made[Z8_SAVED_LEN];
+    struct arguments a;
 
-    check_number(0, (unsigned long)ref_make(&m, Z8_TYPE_Z8601, Z8_ENTRY_COST_LEAST), "least entry cost");
-    check_number(3, (unsigned long)ref_make(&m, Z8_TYPE_Z8601, Z8_ENTRY_COST_LEAST - 1), "less than that");
-    check_number(0, (unsigned long)ref_make(&m, Z8_TYPE_Z8611, Z8_ENTRY_COST_MOST), "most entry cost");
-    check_number(3, (unsigned long)ref_make(&m, Z8_TYPE_Z8611, Z8_ENTRY_COST_MOST + 1), "more than that");
-    check(Z8_DEFAULT_TYPE == 11 && Z8_DEFAULT_ENTRY_COST == 20, "01: type 11 and entry cost 20 unless others "
-                                                                "are named");
-    check(Z8_IMAGE_MOST == 65536 && Z8_DATA_MOST == 65536 && Z8_BUDGET_MOST == 1000000
-              && Z8_OVERRUN_MOST == 62,
-          "01: 65,536, 65,536, 1,000,000 and 62");
-    check(Z8_OK == 0 && Z8_REFUSED_IMAGE == 1 && Z8_REFUSED_DATA == 2 && Z8_REFUSED_MAKING == 3
-              && Z8_REFUSED_BUDGET == 4 && Z8_REFUSED_OPCODE == 5 && Z8_REFUSED_MACHINE == 6
-              && Z8_REFUSED_LENGTH == 7 && Z8_REFUSED_INSTRUCTION == 8,
-          "01's table of refusals");
+    check_number(Z8_OK, z8_make(m, sizeof m, Z8_TYPE_Z8601, Z8_ENTRY_COST_LEAST), "least entry cost");
+    check_number(Z8_REFUSED_MAKING, z8_make(m, sizeof m, Z8_TYPE_Z8601, Z8_ENTRY_COST_LEAST - 1), "less");
+    check_number(Z8_OK, z8_make(m, sizeof m, Z8_TYPE_Z8611, Z8_ENTRY_COST_MOST), "most entry cost");
+    check_number(Z8_REFUSED_MAKING, z8_make(m, sizeof m, Z8_TYPE_Z8611, Z8_ENTRY_COST_MOST + 1), "more");
+    check_type(Z8_TYPE_Z8601, 2048);
+    check_type(Z8_TYPE_Z8611, 4096);
+
+    check_number(Z8_OK, z8_make_default(m, sizeof m), "z8_make_default");
+    check_number(Z8_OK, z8_make(made, sizeof made, Z8_DEFAULT_TYPE, Z8_DEFAULT_ENTRY_COST), "the defaults");
+    check(memcmp(m, made, sizeof m) == 0, "the header's defaults are the library's");
+    check_number(11, m[Z8_AT_TYPE], "01: type 11 unless another is named");
+    check_number(20, m[Z8_AT_ENTRY_COST], "01: entry cost 20 unless another is named");
+
+    base_call(&a);
+    a.image_length = Z8_IMAGE_MOST;
+    check_number(Z8_OK, call_decode(&a), "z8_decode with the longest image");
+    check_number(Z8_OK, call_step(&a), "z8_step with the longest image");
+    a.image_length = Z8_IMAGE_MOST + 1;
+    check_number(Z8_REFUSED_IMAGE, call_decode(&a), "z8_decode with a longer one");
+    check_number(Z8_REFUSED_IMAGE, call_step(&a), "z8_step with a longer one");
+    base_call(&a);
+    a.data_length = Z8_DATA_MOST;
+    check_number(Z8_OK, call_step(&a), "z8_step with the longest data memory");
+    a.data_length = Z8_DATA_MOST + 1;
+    check_number(Z8_REFUSED_DATA, call_step(&a), "z8_step with a longer one");
+    base_call(&a);
+    a.budget = Z8_BUDGET_MOST;
+    lent.image[GUARD + BASE_PC] = 0x8B; /* JR to itself */
+    lent.image[GUARD + BASE_PC + 1] = 0xFE;
+    check_number(Z8_OK, call_run(&a), "the highest budget");
+    a.budget = Z8_BUDGET_MOST + 1;
+    check_number(Z8_REFUSED_BUDGET, call_run(&a), "a higher one");
+}
+
+/* Each refusal by the header's name: a fault that 01's table gives that number to. */
+static void check_refusal_names(void)
+{
+    static const struct {
+        uint32_t name;
+        uint32_t number;
+        const char *what;
+    } refusals[] = {
+        {Z8_REFUSED_IMAGE, 1, "Z8_REFUSED_IMAGE"},     {Z8_REFUSED_DATA, 2, "Z8_REFUSED_DATA"},
+        {Z8_REFUSED_MAKING, 3, "Z8_REFUSED_MAKING"},   {Z8_REFUSED_BUDGET, 4, "Z8_REFUSED_BUDGET"},
+        {Z8_REFUSED_OPCODE, 5, "Z8_REFUSED_OPCODE"},   {Z8_REFUSED_MACHINE, 6, "Z8_REFUSED_MACHINE"},
+        {Z8_REFUSED_LENGTH, 7, "Z8_REFUSED_LENGTH"},   {Z8_REFUSED_INSTRUCTION, 8, "Z8_REFUSED_INSTRUCTION"},
+    };
+    struct arguments a;
+    size_t r, c, f;
+
+    for (r = 0; r < sizeof refusals / sizeof refusals[0]; r++) {
+        unsigned long asked = checks;
+
+        for (c = 0; c < CALLS; c++) {
+            for (f = 0; f < fault_count; f++) {
+                if (faults[f].number == refusals[r].number && meets(&calls[c], &faults[f])) {
+                    base_call(&a);
+                    faults[f].make(&a, faults[f].value);
+                    check_number(refusals[r].name, calls[c].make(&a), refusals[r].what);
+                }
+            }
+        }
+        check(checks > asked, refusals[r].what);
+    }
+    for (c = 0; c < CALLS; c++) {
+        base_call(&a);
+        check_number(Z8_OK, calls[c].make(&a), "Z8_OK");
+    }
+}
+
+static void check_version(void)
+{
+    unsigned long version = z8_version();
+    char words[40];
+
+    check_number(Z8_VERSION_NUMBER, version, "z8_version and Z8_VERSION_NUMBER");
+    check_number(Z8_VERSION_MAJOR, version / 65536, "Z8_VERSION_MAJOR");
+    check_number(Z8_VERSION_MINOR, version / 256 % 256, "Z8_VERSION_MINOR");
+    check_number(Z8_VERSION_PATCH, version % 256, "Z8_VERSION_PATCH");
+    sprintf(words, "%lu.%lu.%lu", version / 65536, version / 256 % 256, version % 256);
+    check(strcmp(words, Z8_VERSION) == 0, "Z8_VERSION");
+}
+
+struct control_register {
+    unsigned name;
+    uint8_t number; /* 002: R241 to R255 */
+    uint8_t kept;   /* the bits that a store leaves there, by 01 */
+    const char *what;
+};
+
+static const struct control_register control_registers[] = {
+    {Z8_TMR, 241, 0xFA, "Z8_TMR"},     {Z8_T1, 242, 0xFF, "Z8_T1"},     {Z8_PRE1, 243, 0xFF, "Z8_PRE1"},
+    {Z8_T0, 244, 0xFF, "Z8_T0"},       {Z8_PRE0, 245, 0xFF, "Z8_PRE0"}, {Z8_P2M, 246, 0xFF, "Z8_P2M"},
+    {Z8_P3M, 247, 0xFF, "Z8_P3M"},     {Z8_P01M, 248, 0xFF, "Z8_P01M"}, {Z8_IPR, 249, 0xFF, "Z8_IPR"},
+    {Z8_IRQ, 250, 0x3F, "Z8_IRQ"},     {Z8_IMR, 251, 0xFF, "Z8_IMR"},   {Z8_FLAGS, 252, 0xFF, "Z8_FLAGS"},
+    {Z8_RP, 253, 0xF0, "Z8_RP"},       {Z8_SPH, 254, 0xFF, "Z8_SPH"},   {Z8_SPL, 255, 0xFF, "Z8_SPL"},
+};
+
+/* A byte that the program stores to the register of that number is where the header's name says. */
+static void check_register_names(void)
+{
+    const uint8_t byte = 0x7A;
+    uint8_t m[Z8_SAVED_LEN];
+    unsigned address;
+    size_t k;
+
+    for (k = 0; k < sizeof control_registers / sizeof control_registers[0]; k++) {
+        const struct control_register *r = &control_registers[k];
+        const uint8_t program[3] = {0xE6, r->number, byte};
+
+        z8_make_default(m, Z8_SAVED_LEN);
+        steps_of(m, program, sizeof program, 1, 0xFF);
+        check_number(byte & r->kept, m[Z8_AT_REGISTERS + r->name], r->what);
+    }
+    /* A store to F0 is dropped, so that it is known by being the one that has to be zero. */
+    for (address = 0xF0; address <= 0xFF; address++) {
+        z8_make_default(m, Z8_SAVED_LEN);
+        m[Z8_AT_REGISTERS + address] = 0x10;
+        check_number(address == Z8_SIO ? Z8_REFUSED_MACHINE : Z8_OK, z8_check(m, Z8_SAVED_LEN), "Z8_SIO");
+    }
+}
+
+struct flags_example {
+    const char *words;
+    uint8_t bytes[2]; /* R5 is the destination, R6 the source */
+    uint8_t dst, src, flags_before;
+    unsigned flags_after;
+};
+
+static const struct flags_example flags_examples[] = {
+    {"SCF: Z8_FLAG_C", {0xDF, 0}, 0, 0, 0, Z8_FLAG_C},
+    {"CP of equals: Z8_FLAG_Z", {0xA2, 0x56}, 7, 7, 0, Z8_FLAG_Z},
+    {"80 OR 00: Z8_FLAG_S", {0x42, 0x56}, 0x80, 0, 0, Z8_FLAG_S},
+    {"INC 7F: Z8_FLAG_S and Z8_FLAG_V", {0x20, 0xE5}, 0x7F, 0, 0, Z8_FLAG_S | Z8_FLAG_V},
+    {"05 - 01: Z8_FLAG_D", {0x22, 0x56}, 5, 1, 0, Z8_FLAG_D},
+    {"0F + 01: Z8_FLAG_H", {0x02, 0x56}, 0x0F, 1, 0, Z8_FLAG_H},
+    {"44 + 11 clears all but Z8_FLAG_F2 and Z8_FLAG_F1",
+     {0x02, 0x56}, 0x44, 0x11, 0xFF, Z8_FLAG_F2 | Z8_FLAG_F1},
+};
+
+static void check_flag_names(void)
+{
+    static const uint8_t rotate_flags[] = {0xE4, FLAGS, 0x15, 0xE0, 0x15}; /* LD %15,FLAGS  RR %15 */
+    uint8_t m[Z8_SAVED_LEN];
+    size_t k;
+
+    for (k = 0; k < sizeof flags_examples / sizeof flags_examples[0]; k++) {
+        const struct flags_example *e = &flags_examples[k];
+
+        z8_make_default(m, Z8_SAVED_LEN);
+        m[RP] = 0x10;
+        m[0x15] = e->dst;
+        m[0x16] = e->src;
+        m[FLAGS] = e->flags_before;
+        steps_of(m, e->bytes, 2, 1, 0xFF);
+        check_number(e->flags_after, m[FLAGS], e->words);
+    }
+    /* F1 is bit 0, which goes into C, and F2 isn't. */
+    z8_make_default(m, Z8_SAVED_LEN);
+    m[FLAGS] = Z8_FLAG_F1;
+    steps_of(m, rotate_flags, sizeof rotate_flags, 2, 0xFF);
+    check_number(Z8_FLAG_C, m[FLAGS] & Z8_FLAG_C, "Z8_FLAG_F1 rotated into C");
+    z8_make_default(m, Z8_SAVED_LEN);
+    m[FLAGS] = Z8_FLAG_F2;
+    steps_of(m, rotate_flags, sizeof rotate_flags, 2, 0xFF);
+    check_number(0, m[FLAGS] & Z8_FLAG_C, "Z8_FLAG_F2 not");
 }
 
 static void check_answer_texts(void)
@@ -1239,6 +1476,7 @@ int main(void)
     check_all_faults();
     check_every_value_of_every_place();
     check_random_bytes();
+    check_every_length();
     check_lengths_that_are_fine();
     check_makings();
     check_resets();
@@ -1251,6 +1489,10 @@ int main(void)
     check_01s_examples();
     check_offsets();
     check_limits();
+    check_refusal_names();
+    check_version();
+    check_register_names();
+    check_flag_names();
     check_answer_texts();
     printf("calls: %lu checks, %lu failed\n", checks, failed);
     return failed != 0;

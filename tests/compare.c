@@ -2,8 +2,8 @@
 
    Usage: compare SEED COUNT IMAGE...
    COUNT is the number of drawn steps; the drawn runs, spans and checks go with it. The values of the
-   arithmetic, the operand bytes and the written programs are gone through whole, whatever COUNT. The images
-   are run from reset. */
+   arithmetic, the operand bytes, the registers, the ports' modes, the memories' edges and the written programs
+   are gone through whole, whatever COUNT. The images are run from reset. */
 #include <stdio.h>
 #include <stdlib.h>
 #include <string.h>
@@ -16,6 +16,7 @@
 #include "reference/machine.h"
 #include "reference/step.h"
 #include "report.h"
+#include "seen.h"
 
 /* Register places, by 002. */
 enum { TMR = 0xF1, PRE1 = 0xF3, PRE0 = 0xF5, P01M = 0xF8, IPR = 0xF9, IRQ = 0xFA, IMR = 0xFB };
@@ -39,235 +40,17 @@ static void note(int passed)
     }
 }
 
-/* ---- What happened, and how often ---- */
-
-enum kind {
-    GRANTS,
-    RESERVED_ORDERS,
-    REFUSALS_5,
-    EDGES,
-    EDGE_ENDS,
-    T0_ENDS,
-    T1_ENDS,
-    BOTH_END,
-    MANY_ENDS,
-    SINGLE_PASSES,
-    T_OUT_FLIPS,
-    GATE_HIGH,
-    GATE_LOW,
-    LOADS,
-    INTERNAL_STACK,
-    EXTERNAL_STACK,
-    STACK_ON_SPECIAL,
-    SPL_WRAPS,
-    SP_WRAPS,
-    DATA_STORES,
-    DATA_DROPS,
-    PAST_IMAGE,
-    PC_WRAPS,
-    EX_OPERANDS,
-    SPECIAL_OPERANDS,
-    HOLES,
-    DA_IN_NO_ROW,
-    JUMPS,
-    FLAGS_STORED,
-    RP_STORED,
-    NO_IMAGE,
-    NO_DATA,
-    KINDS
-};
-
-static const char *const kind_names[KINDS] = {
-    "grants",           "reserved orders",
-    "refusals 5",       "edges",
-    "edge ends",        "T0 ends",
-    "T1 ends",          "both end",
-    "many ends",        "single passes",
-    "T_OUT flips",      "gate high",
-    "gate low",         "TMR loads",
-    "internal stack",   "external stack",
-    "stack on special", "SPL wraps",
-    "SP wraps",         "data stores",
-    "data drops",       "fetches past image",
-    "PC wraps",         "Ex operands",
-    "special operands", "holes",
-    "DA in no row",     "jumps",
-    "FLAGS stored",     "RP stored",
-    "no image",         "no data",
-};
-
-static unsigned long happened[KINDS];
-
-static void saw(enum kind kind, int it_happened)
-{
-    happened[kind] += it_happened != 0;
-}
-
-static unsigned word_at(const uint8_t *bytes)
-{
-    return bytes[0] * 256u + bytes[1];
-}
-
-static unsigned pc_of(const struct given *g)
-{
-    return word_at(g->saved + Z8_AT_PC);
-}
-
-static unsigned opcode_of(const struct given *g)
-{
-    return ref_program(g->image, g->image_length, (uint16_t)pc_of(g));
-}
-
-/* Requests that stand when a grant is decided, less an edge's end of T1. 01: "falling edges on P32, P33, P31,
-   P30 latch requests 0, 1, 2, 3". */
-static unsigned requests_standing(const struct given *g)
-{
-    unsigned fell = g->saved[Z8_AT_PORT3] & ~g->pins[3] & 0x0Fu;
-
-    return g->saved[IRQ] | (fell >> 2 & 1) | (fell >> 2 & 2) | (fell << 1 & 4) | (fell << 3 & 8);
-}
-
-static int asks_for_grant(const struct given *g)
-{
-    return (g->saved[IMR] & 0x80) && (requests_standing(g) & g->saved[IMR] & 0x3F);
-}
-
-static int order_is_reserved(const struct given *g)
-{
-    unsigned order = g->saved[IPR] & 0x19u;
-
-    return order == 0 || order == 0x19;
-}
-
-static void see_interrupts(const struct given *g)
-{
-    saw(GRANTS, asks_for_grant(g) && !order_is_reserved(g));
-    saw(RESERVED_ORDERS, asks_for_grant(g) && order_is_reserved(g));
-}
-
-static void see_timers(const struct given *g, const struct outcome *after)
-{
-    unsigned fell = g->saved[Z8_AT_PORT3] & ~g->pins[3] & 0x0Fu;
-    unsigned source = (g->saved[PRE1] & 2) ? 0x40 : g->saved[TMR] & 0x30u;
-    int t1_counts = g->saved[TMR] & 8;
-
-    saw(EDGES, fell);
-    saw(EDGE_ENDS, (fell & 2) && source == 0 && t1_counts && g->saved[Z8_AT_T1_PRESCALER] == 1
-                       && g->saved[Z8_AT_T1_COUNTER] == 1);
-    saw(GATE_HIGH, source == 0x10 && t1_counts && (g->pins[3] & 2));
-    saw(GATE_LOW, source == 0x10 && t1_counts && !(g->pins[3] & 2));
-    saw(T0_ENDS, after->ends0);
-    saw(T1_ENDS, after->ends1);
-    saw(BOTH_END, after->ends0 && after->ends1);
-    saw(MANY_ENDS, after->ends0 > 1 || after->ends1 > 1);
-    saw(SINGLE_PASSES, (after->ends0 && !(g->saved[PRE0] & 1)) || (after->ends1 && !(g->saved[PRE1] & 1)));
-    saw(T_OUT_FLIPS, after->saved[Z8_AT_T_OUT] != g->saved[Z8_AT_T_OUT]);
-}
-
-static int is_stack_instruction(unsigned opcode)
-{
-    return opcode == 0x50 || opcode == 0x51 || opcode == 0x70 || opcode == 0x71 || opcode == 0xAF
-           || opcode == 0xBF || opcode == 0xD4 || opcode == 0xD6;
-}
-
-static int uses_stack(const struct given *g)
-{
-    return is_stack_instruction(opcode_of(g)) || (asks_for_grant(g) && !order_is_reserved(g));
-}
-
-static int stack_is_internal(const struct given *g)
-{
-    return (g->saved[P01M] & 4) != 0;
-}
-
-static void see_stack(const struct given *g, const struct outcome *after)
-{
-    int low_moved_far = abs(after->saved[SPL] - g->saved[SPL]) > 128;
-    int high_moved_far = abs(after->saved[SPH] - g->saved[SPH]) > 128;
-
-    if (!uses_stack(g)) {
-        return;
-    }
-    saw(INTERNAL_STACK, stack_is_internal(g));
-    saw(EXTERNAL_STACK, !stack_is_internal(g));
-    saw(STACK_ON_SPECIAL, stack_is_internal(g) && (g->saved[SPL] < 4 || g->saved[SPL] >= 0x80));
-    saw(SPL_WRAPS, stack_is_internal(g) && low_moved_far);
-    saw(SP_WRAPS, !stack_is_internal(g) && high_moved_far);
-}
-
-static int writes_data_by_instruction(unsigned opcode)
-{
-    return opcode == 0x92 || opcode == 0x93;
-}
-
-/* Where by the papers a store to data memory can happen: LDE, LDEI, and the external stack. */
-static int can_store_data(const struct given *g)
-{
-    return writes_data_by_instruction(opcode_of(g))
-           || (!stack_is_internal(g) && (is_stack_instruction(opcode_of(g)) || (g->saved[IMR] & 0x80)));
-}
-
-static void see_data(const struct given *g, const struct outcome *after)
-{
-    int stored = can_store_data(g) && g->data_length > 0 && memcmp(g->data, after->data, g->data_length) != 0;
-
-    saw(DATA_STORES, stored);
-    saw(DATA_DROPS, writes_data_by_instruction(opcode_of(g)) && !asks_for_grant(g) && !stored);
-    saw(NO_IMAGE, g->image == NULL);
-    saw(NO_DATA, g->data_length == 0);
-}
-
-static void see_instruction(const struct given *g, const struct outcome *after)
-{
-    unsigned pc = pc_of(g), opcode = opcode_of(g);
-    unsigned length = (unsigned)ref_length((int)opcode);
-    unsigned operand = ref_program(g->image, g->image_length, (uint16_t)(pc + 1));
-
-    if (asks_for_grant(g)) {
-        return;
-    }
-    saw(REFUSALS_5, after->answer == 5);
-    saw(PAST_IMAGE, pc + length > g->image_length);
-    saw(PC_WRAPS, pc + length > 0xFFFF);
-    saw(EX_OPERANDS, length > 1 && operand / 16 == 0xE);
-    saw(SPECIAL_OPERANDS, length > 1 && (operand < 4 || operand > 0xF0));
-    saw(HOLES, length > 1 && operand >= 0x80 && operand <= 0xF0 && operand / 16 != 0xE);
-    saw(DA_IN_NO_ROW, opcode == 0x40 && operand > 3 && operand < 0x80
-                          && g->saved[operand] == after->saved[operand] && g->saved[operand] % 16 > 9);
-    saw(LOADS,
-        opcode == 0xE6 && operand == TMR && (ref_program(g->image, g->image_length, (uint16_t)(pc + 2)) & 5));
-    saw(JUMPS, after->answer == 0 && word_at(after->saved + Z8_AT_PC) != (pc + length) % 65536);
-    saw(FLAGS_STORED, opcode != 0xBF && (g->saved[FLAGS] & 3) != (after->saved[FLAGS] & 3));
-    saw(RP_STORED, g->saved[RP] != after->saved[RP]);
-}
-
-static void see_step(const struct given *g, const struct outcome *after)
-{
-    see_interrupts(g);
-    see_timers(g, after);
-    see_stack(g, after);
-    see_data(g, after);
-    see_instruction(g, after);
-}
+/* ---- What happened, and how often: seen.h ---- */
 
 #define COUNT_WHERE_ALL_HAPPENS 100000ul
 
-static void tell_what_happened(unsigned long count)
+static void check_what_happened(unsigned long count)
 {
     int kind;
 
-    printf("compare: of the drawn steps:");
-    for (kind = 0; kind < KINDS; kind++) {
-        printf("%s %lu %s", kind == 0 ? "" : ",", happened[kind], kind_names[kind]);
-    }
-    printf("\n");
-    for (kind = 0; kind < KINDS; kind++) {
-        if (count >= COUNT_WHERE_ALL_HAPPENS) {
-            if (happened[kind] == 0) {
-                printf("NEVER HAPPENED: %s\n", kind_names[kind]);
-            }
-            note(happened[kind] != 0);
-        }
+    tell_what_happened();
+    for (kind = 0; kind < KINDS && count >= COUNT_WHERE_ALL_HAPPENS; kind++) {
+        note(has_happened((enum kind)kind));
     }
 }
 
@@ -342,23 +125,23 @@ static uint32_t draw_data_length(struct dice *d)
     return one_in(d, 3) ? below(d, 65537) : one_of(d, lengths, sizeof lengths / sizeof lengths[0]);
 }
 
-/* Mostly a whole image; else none, a short one, or one that ends at or within the instruction. */
-static uint32_t draw_image_length(struct dice *d, unsigned pc)
+static uint32_t draw_image_length(struct dice *d)
 {
-    switch (below(d, 16)) {
+    switch (below(d, 8)) {
     case 0:
-        return 0;
-    case 1:
         return below(d, 16);
+    case 1:
     case 2:
         return below(d, 65537);
-    case 3:
-    case 4:
-        pc += below(d, 4);
-        return pc > MEMORY ? MEMORY : pc;
     default:
         return MEMORY;
     }
+}
+
+static void set_pc(struct given *g, unsigned pc)
+{
+    g->saved[Z8_AT_PC] = (uint8_t)(pc / 256);
+    g->saved[Z8_AT_PC + 1] = (uint8_t)pc;
 }
 
 /* Opcodes that meet more than one rule of 01 at once, and so are drawn more often. */
@@ -407,12 +190,15 @@ static void draw_surroundings(struct dice *d, struct given *g)
     memset(g, 0, sizeof *g);
     lean.requests = one_in(d, 4);
     lean.data_length = draw_data_length(d);
-    lean.image_length = MEMORY;
+    lean.image_length = draw_image_length(d);
     draw_machine(d, &lean, g->saved);
+    if (one_in(d, 8)) {
+        set_pc(g, lean.image_length - below(d, 4)); /* the image ends at or within the instruction */
+    }
     g->seed = seed;
     g->data_length = lean.data_length;
     g->data = lean.data_length == 0 && one_in(d, 2) ? NULL : first_memory.bytes;
-    g->image_length = draw_image_length(d, pc_of(g));
+    g->image_length = lean.image_length;
     g->image = g->image_length == 0 && one_in(d, 2) ? NULL : image;
     draw_pins(d, g);
 }
@@ -464,6 +250,17 @@ static void compare_drawn_steps(unsigned long count)
     compare_whole_memories();
 }
 
+/* A drawn machine that executes what is put at its program counter. */
+static void draw_executing(struct dice *d, struct given *g, const char *call, unsigned long number)
+{
+    draw_surroundings(d, g);
+    g->call = call;
+    g->number = number;
+    g->saved[IMR] &= 0x7F;
+    g->image = image;
+    g->image_length = MEMORY;
+}
+
 /* Every first and every second operand byte with every opcode. */
 static void compare_operand_bytes(void)
 {
@@ -475,18 +272,90 @@ static void compare_operand_bytes(void)
         uint8_t bytes[3];
 
         dice_for_case(&d, seed + 1, number);
-        draw_surroundings(&d, &g);
-        g.call = "z8_step, an operand byte";
-        g.number = number;
-        g.saved[IMR] &= 0x7F; /* so that the instruction is executed */
-        if (g.image_length < MEMORY) {
-            g.image = image;
-            g.image_length = MEMORY;
-        }
+        draw_executing(&d, &g, "z8_step, an operand byte", number);
         draw_instruction(&d, number, bytes);
         bytes[0] = (uint8_t)number;
         bytes[number < 65536 ? 1 : 2] = (uint8_t)(number / 256);
         compare_instruction(&g, bytes);
+    }
+    compare_whole_memories();
+}
+
+/* ---- The registers, each by its address ---- */
+
+#define POINTER 0x40u /* a plain register */
+#define MACHINES_FOR_A_REGISTER 64u
+
+/* An address found in a register is taken as it is, so each of the 256 is reached: read, stored to, and
+   counted up as a pair. */
+static void compare_registers(void)
+{
+    unsigned long number;
+
+    for (number = 0; number < 256 * MACHINES_FOR_A_REGISTER; number++) {
+        const uint8_t read[3] = {0xE5, POINTER, POINTER + 1}; /* LD %41,@%40 */
+        const uint8_t pair[3] = {0xA1, POINTER, 0};           /* INCW @%40 */
+        uint8_t store[3] = {0xE7, POINTER, 0};                /* LD @%40,#.. */
+        struct given g;
+        struct dice d;
+
+        dice_for_case(&d, seed + 10, number);
+        draw_executing(&d, &g, "z8_step, a register by its address", number);
+        g.saved[POINTER] = (uint8_t)number;
+        store[2] = any_byte(&d);
+        compare_instruction(&g, read);
+        compare_instruction(&g, store);
+        compare_instruction(&g, pair);
+    }
+}
+
+#define MACHINES_FOR_A_MODE 4u
+
+/* Every P01M with each port, read and stored to; P2M, latches and pins as they come. */
+static void compare_port_modes(void)
+{
+    unsigned long number;
+
+    for (number = 0; number < 256 * 4 * MACHINES_FOR_A_MODE; number++) {
+        uint8_t port = (uint8_t)(number / 256 % 4);
+        const uint8_t read[3] = {0xE4, port, POINTER}; /* LD %40,port */
+        uint8_t store[3] = {0xE6, port, 0};            /* LD port,#.. */
+        struct given g;
+        struct dice d;
+
+        dice_for_case(&d, seed + 11, number);
+        draw_executing(&d, &g, "z8_step, a port's mode", number);
+        g.saved[P01M] = (uint8_t)number;
+        store[2] = any_byte(&d);
+        compare_instruction(&g, read);
+        compare_instruction(&g, store);
+    }
+}
+
+static unsigned machines_for_control(unsigned address)
+{
+    return TMR <= address && address <= PRE0 ? 64 : 4; /* a store to the timers' registers meets their state */
+}
+
+/* Every byte stored to every control register. */
+static void compare_control_stores(void)
+{
+    unsigned address, value, machine;
+
+    for (address = 0xF0; address <= 0xFF; address++) {
+        for (value = 0; value < 256; value++) {
+            const uint8_t store[3] = {0xE6, (uint8_t)address, (uint8_t)value};
+
+            for (machine = 0; machine < machines_for_control(address); machine++) {
+                unsigned long number = (machine * 256ul + value) * 256 + address;
+                struct given g;
+                struct dice d;
+
+                dice_for_case(&d, seed + 12, number);
+                draw_executing(&d, &g, "z8_step, a byte stored to a control register", number);
+                compare_instruction(&g, store);
+            }
+        }
     }
     compare_whole_memories();
 }
@@ -587,7 +456,8 @@ static void compare_flag_values(void)
     }
 }
 
-/* DECW and INCW %14: all words. DJNZ r5 and the displacements: all bytes of both. */
+/* DECW and INCW %14: all words, on a FLAGS byte of zeros and on one of ones. DJNZ r5 and the displacements:
+   all bytes of both. */
 static void compare_word_values(void)
 {
     uint8_t program[14] = {0};
@@ -603,7 +473,8 @@ static void compare_word_values(void)
         for (word = 0; word < 65536; word++) {
             g.saved[0x14] = (uint8_t)(word / 256);
             g.saved[0x15] = (uint8_t)word;
-            compare_values(&g, (uint8_t)((word + word / 256) % 2 ? 0xFF : 0x00));
+            compare_values(&g, 0x00);
+            compare_values(&g, 0xFF);
         }
     }
     program[12] = 0x5A;
@@ -641,6 +512,76 @@ static void compare_priorities(void)
             compare_values(&g, 0xAA);
         }
     }
+}
+
+/* ---- The memories' edges ---- */
+
+#define EDGE_PC 0x0200u
+
+/* With RR2 and the external stack pointer at that address: what loads, stores, pushes and pops there. */
+static void compare_at_address(struct given *g, unsigned address)
+{
+    static const uint8_t instructions[][3] = {
+        {0x82, 0x42, 0},       /* LDE R4,@RR2 */
+        {0x92, 0x42, 0},       /* LDE @RR2,R4 */
+        {0xC2, 0x42, 0},       /* LDC R4,@RR2 */
+        {0x70, 0x14, 0},       /* PUSH %14 */
+        {0x50, 0x15, 0},       /* POP %15 */
+        {0xD6, 0x12, 0x34},    /* CALL %1234 */
+        {0xAF, 0, 0},          /* RET */
+        {0xBF, 0, 0},          /* IRET */
+    };
+    size_t k;
+
+    g->saved[0x12] = g->saved[SPH] = (uint8_t)(address / 256);
+    g->saved[0x13] = g->saved[SPL] = (uint8_t)address;
+    g->saved[IRQ] = g->saved[IMR] = 0;
+    for (k = 0; k < sizeof instructions / sizeof instructions[0]; k++) {
+        compare_instruction(g, instructions[k]);
+        g->number++;
+    }
+    g->saved[IRQ] = 0x01; /* an interrupt's entry */
+    g->saved[IMR] = 0x81;
+    compare_instruction(g, instructions[0]);
+    g->number++;
+}
+
+/* As much data memory, and so long an image, with each address about each end. */
+static void compare_edges_of(struct given *g, uint32_t length)
+{
+    const uint32_t edges[] = {0, 2048, 4096, length, 65536};
+    unsigned edge, near;
+
+    g->data = first_memory.bytes;
+    g->data_length = length;
+    g->image = image;
+    g->image_length = length > EDGE_PC + 3 ? length : MEMORY;
+    for (edge = 0; edge < sizeof edges / sizeof edges[0]; edge++) {
+        for (near = 0; near < 9; near++) {
+            compare_at_address(g, (edges[edge] + near + 65532) % 65536);
+        }
+    }
+}
+
+static void compare_memory_edges(void)
+{
+    static const uint32_t lengths[] = {0,    1,    100,  2047, 2048, 2049,  2050,
+                                       4095, 4096, 4097, 4098, 4200, 65535, 65536};
+    struct given g;
+    size_t k;
+
+    plain_machine(&g, "z8_step, at an edge of a memory");
+    set_pc(&g, EDGE_PC);
+    g.saved[P01M] = 0;
+    g.saved[IPR] = 0x08;
+    g.saved[0x14] = 0xC7;
+    for (k = 0; k < sizeof lengths / sizeof lengths[0]; k++) {
+        g.saved[Z8_AT_TYPE] = Z8_TYPE_Z8601;
+        compare_edges_of(&g, lengths[k]);
+        g.saved[Z8_AT_TYPE] = Z8_TYPE_Z8611;
+        compare_edges_of(&g, lengths[k]);
+    }
+    compare_whole_memories();
 }
 
 /* ---- Runs ---- */
@@ -683,28 +624,28 @@ static void compare_drawn_runs(unsigned long count)
         g.image_length = 16 + below(&d, 1000);
         draw_program(&d, program, g.image_length);
         if (!one_in(&d, 8)) {
-            unsigned pc = below(&d, (uint32_t)g.image_length);
-
-            g.saved[Z8_AT_PC] = (uint8_t)(pc / 256);
-            g.saved[Z8_AT_PC + 1] = (uint8_t)pc;
+            set_pc(&g, below(&d, (uint32_t)g.image_length));
         }
         for (slice = 0; slice < 4; slice++) {
             g.amount = draw_budget(&d);
             draw_pins(&d, &g);
             note(agree(&g, run_of_reference, run_of_library, 1, &expected));
+            see_run(&g, &expected);
             memcpy(g.saved, expected.saved, Z8_SAVED_LEN);
         }
         restore_memories();
     }
 }
 
-/* 01, edges to run: "budget 1,000,000 and 1,000,001". */
+/* 01, edges to run: "budget 1,000,000 and 1,000,001". A jump to itself, and NOPs all over program memory, with
+   timers and interrupts as they come. */
 static void compare_budgets_at_the_limit(void)
 {
     static const uint8_t program[14] = {[12] = 0x8B, 0xFE}; /* JR to itself */
-    static const uint32_t budgets[] = {999999, 1000000, 1000001, 4294967295u};
+    static const uint32_t budgets[] = {999998, 999999, 1000000, 1000001, 1000002, 1000003, 4294967295u};
     struct outcome expected;
     struct given g;
+    struct dice d;
     size_t k;
 
     for (k = 0; k < sizeof budgets / sizeof budgets[0]; k++) {
@@ -714,6 +655,16 @@ static void compare_budgets_at_the_limit(void)
         g.image_length = sizeof program;
         g.amount = budgets[k];
         note(agree(&g, run_of_reference, run_of_library, 0, &expected));
+
+        dice_for_case(&d, seed + 13, k);
+        draw_surroundings(&d, &g);
+        g.call = "z8_run, a budget at the limit, of a drawn machine";
+        g.number = k;
+        g.image = NULL;
+        g.image_length = 0;
+        g.amount = budgets[k];
+        note(agree(&g, run_of_reference, run_of_library, 1, &expected));
+        restore_memories();
     }
 }
 
@@ -799,6 +750,7 @@ static void compare_spans(unsigned long count, uint32_t longest, const char *cal
         g.number = number;
         g.amount = below(&d, 1 + (one_in(&d, 4) ? 64 : longest));
         note(agree(&g, span_of_reference, span_of_library, 0, &expected));
+        see_span(&g, &expected);
     }
 }
 
@@ -869,6 +821,8 @@ static void compare_checks_and_resets(unsigned long count)
         draw_checked_machine(&d, &g, number);
         g.call = "z8_check";
         note(agree(&g, check_of_reference, check_of_library, 0, &expected));
+        saw(MACHINES_REFUSED, expected.answer == 6);
+        saw(MACHINES_PASSED, expected.answer == 0);
         g.call = "z8_reset";
         note(agree(&g, reset_of_reference, reset_of_library, 0, &expected));
     }
@@ -939,25 +893,29 @@ int main(int argc, char **argv)
 
     compare_drawn_steps(count);
     compare_operand_bytes();
+    compare_registers();
+    compare_port_modes();
+    compare_control_stores();
     compare_two_operand_values();
     compare_one_operand_values();
     compare_flag_values();
     compare_word_values();
     compare_priorities();
+    compare_memory_edges();
     compare_drawn_runs(1 + count / 20);
     compare_budgets_at_the_limit();
     compare_written_programs();
     for (k = 3; k < argc; k++) {
         compare_image_file(argv[k], (unsigned long)k);
     }
-    compare_spans(1 + count / 10, 2000, "z8_span, short");
-    compare_spans(1 + count / 10000, 3000000, "z8_span, long");
+    compare_spans(1 + count / 8, 4096, "z8_span, short");
+    compare_spans(1 + count / 2000, 1048576, "z8_span, long");
     compare_composed_spans(1 + count / 10);
     compare_checks_and_resets(1 + count / 4);
     compare_makings();
     compare_codes();
 
-    tell_what_happened(count);
+    check_what_happened(count);
     printf("compare: seed %lu, %lu steps, %lu checks, %lu failed\n", seed, steps, checks, failed);
     return failed != 0;
 }

@@ -762,27 +762,42 @@ static void check_prescaler_sequence(void)
 /* 11.3.2: "the counter/timer will either come to rest with its value at %00 (Single-Pass mode) or the initial
    value will be automatically reloaded", "IRQ_4 for T_0 and IRQ_5 for T_1". "i = t x p x v" with t four
    internal clocks. 11.4: "T_OUT toggles to its opposite state". */
+static void check_span_ends(uint32_t span, uint32_t expected0, uint32_t expected1, const char *what)
+{
+    uint32_t ends0, ends1;
+
+    z8_span(saved, Z8_SAVED_LEN, span, &ends0, &ends1);
+    check(expected0, ends0, "z8_span, T_0", "11.3.2", what);
+    check(expected1, ends1, "z8_span, T_1", "11.3.2", what);
+}
+
+/* T0 ends first, T1 some cycles later. */
 static void check_end_of_count(int repeating)
 {
-    uint32_t ends0, ends1, interval = 4 * 5 * 7;
+    const uint32_t interval0 = 4 * 5 * 7, interval1 = 4 * 5 * 8, turns = 10;
 
     new_machine(Z8_TYPE_Z8611);
     saved[PRE0] = (uint8_t)(5 * 4 + repeating);
     saved[PRE1] = (uint8_t)(5 * 4 + 2 + repeating);
-    saved[T0] = saved[T1] = 7;
+    saved[T0] = 7;
+    saved[T1] = 8;
     saved[TMR] = 0x4A;
     saved[Z8_AT_T0_PRESCALER] = saved[Z8_AT_T1_PRESCALER] = 5;
-    saved[Z8_AT_T0_COUNTER] = saved[Z8_AT_T1_COUNTER] = 7;
-    z8_span(saved, Z8_SAVED_LEN, interval - 1, &ends0, &ends1);
-    check(0, ends0 + ends1 + saved[IRQ], "z8_span", "11.3.2", "not before i = t x p x v");
-    z8_span(saved, Z8_SAVED_LEN, 1, &ends0, &ends1);
-    check(2, ends0 + ends1, "z8_span", "11.3.2", "i = t x p x v");
-    check(0x30, saved[IRQ], "z8_span", "11.3.2", "IRQ_4 for T_0 and IRQ_5 for T_1");
+    saved[Z8_AT_T0_COUNTER] = 7;
+    saved[Z8_AT_T1_COUNTER] = 8;
+    check_span_ends(interval0 - 1, 0, 0, "not before i = t x p x v");
+    check(0, saved[IRQ], "z8_span", "11.3.2", "no request before");
+    check_span_ends(1, 1, 0, "i = t x p x v");
+    check(0x10, saved[IRQ], "z8_span", "11.3.2", "IRQ_4 for T_0");
     check(0, saved[Z8_AT_T_OUT], "z8_span", "11.4", "T_OUT toggles");
     check(repeating ? 7 : 0, saved[Z8_AT_T0_COUNTER], "z8_span", "11.3.2", "rest with %00, or reloaded: T0");
-    check(repeating ? 7 : 0, saved[Z8_AT_T1_COUNTER], "z8_span", "11.3.2", "rest with %00, or reloaded: T1");
-    z8_span(saved, Z8_SAVED_LEN, 10 * interval, &ends0, &ends1);
-    check(repeating ? 20 : 0, ends0 + ends1, "z8_span", "11.3.2", "come to rest, or counting will continue");
+    check_span_ends(interval1 - interval0 - 1, 0, 0, "not before i = t x p x v");
+    check_span_ends(1, 0, 1, "i = t x p x v");
+    check(0x30, saved[IRQ], "z8_span", "11.3.2", "and IRQ_5 for T_1");
+    check(0, saved[Z8_AT_T_OUT], "z8_span", "11.4", "T_OUT is T_0's");
+    check(repeating ? 8 : 0, saved[Z8_AT_T1_COUNTER], "z8_span", "11.3.2", "rest with %00, or reloaded: T1");
+    check_span_ends(turns * interval1, repeating ? (interval1 + turns * interval1) / interval0 - 1 : 0,
+                    repeating ? turns : 0, "come to rest, or counting will continue");
 }
 
 /* 11.6: T0 continuous and driving T_OUT, which is wired back to T_IN, T1's external clock. "On every other

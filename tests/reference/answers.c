@@ -1,8 +1,7 @@
 /* The reference's answers, a checksum for each question, in the order and form of the program crates/vectors. Its output is what
-   crates/vectors/stdout has to be. Only this file knows that program: it asks bytes.c and timers.c, and answers nothing by itself. */
+   crates/vectors/stdout has to be. Only this file knows that program: it asks bytes.c, and answers nothing by itself. */
 #include <stdio.h>
 #include "bytes.h"
-#include "timers.h"
 
 static uint32_t mixed(uint32_t h, uint32_t x)
 {
@@ -26,28 +25,6 @@ static uint32_t over_bytes(int op)
                 int stored = ref_byte(op, (uint8_t)dst, (uint8_t)src, read, (uint8_t)(k / 8 * 255), &value, &flags);
                 h = mixed(h, (uint32_t)stored * 65536u + value * 256u + flags);
             }
-    return h;
-}
-
-static uint32_t over_words(int up)
-{
-    uint32_t h = 0;
-    for (long w = 0; w < 65536; w++)
-        for (int k = 0; k < 2; k++) {
-            uint16_t value;
-            uint8_t flags;
-            ref_word(up, (uint16_t)w, (uint8_t)(k * 255), &value, &flags);
-            h = mixed(h, value * 256u + flags);
-        }
-    return h;
-}
-
-static uint32_t over_conditions(void)
-{
-    uint32_t h = 0;
-    for (int cc = 0; cc < 16; cc++)
-        for (int f = 0; f < 256; f++)
-            h = mixed(h, (uint32_t)ref_condition(cc, (uint8_t)f));
     return h;
 }
 
@@ -87,105 +64,18 @@ static uint32_t over_lengths(void)
     return h;
 }
 
-/* The j-th number drawn for question i. */
-static uint32_t draw(uint32_t i, uint32_t j)
-{
-    uint64_t a = ((uint64_t)i * 32 + j + 1) * 48271 % 2147483647u;
-    return (uint32_t)(a * a % 2147483647u);
-}
-
-/* The same below wide, and in half of the questions below narrow. */
-static uint32_t draw_below(uint32_t i, uint32_t j, uint32_t narrow, uint32_t wide)
-{
-    return draw(i, j) % (draw(i, 0) % 2 == 0 ? narrow : wide);
-}
-
-/* A legal state and control registers. */
-static struct ref_timers drawn(uint32_t i)
-{
-    struct ref_timers t;
-    t.tmr = (uint8_t)(draw(i, 1) & 0xFA);
-    t.t1 = (uint8_t)draw_below(i, 2, 8, 256);
-    t.pre1 = (uint8_t)draw_below(i, 3, 32, 256);
-    t.t0 = (uint8_t)draw_below(i, 4, 8, 256);
-    t.pre0 = (uint8_t)draw_below(i, 5, 32, 256);
-    t.port3 = (uint8_t)(draw(i, 6) % 256);
-    t.divider = (uint8_t)(draw(i, 7) % 4);
-    t.prescaler0 = (uint8_t)(1 + draw_below(i, 8, 8, 64));
-    t.counter0 = (uint16_t)(1 + draw_below(i, 9, 8, 256));
-    t.prescaler1 = (uint8_t)(1 + draw_below(i, 10, 8, 64));
-    t.counter1 = (uint16_t)(1 + draw_below(i, 11, 8, 256));
-    t.irq = (uint8_t)(draw(i, 12) % 64);
-    t.tout = (uint8_t)(draw(i, 13) % 2);
-    t.ends0 = 0;
-    t.ends1 = 0;
-    return t;
-}
-
-/* All that a timer question's answer says, on top of h. */
-static uint32_t state(uint32_t h, const struct ref_timers *t)
-{
-    const uint32_t parts[] = { t->divider, t->prescaler0, t->counter0, t->tmr / 2 % 2, t->prescaler1, t->counter1,
-        t->tmr / 8 % 2, t->irq, t->tout };
-    for (size_t k = 0; k < sizeof parts / sizeof *parts; k++)
-        h = mixed(h, parts[k]);
-    return h;
-}
-
-static uint32_t ended(const struct ref_timers *t)
-{
-    return state(mixed(mixed(0, t->ends0), t->ends1), t);
-}
-
-static uint32_t over_spans(uint32_t count, uint32_t limit)
-{
-    uint32_t h = 0;
-    for (uint32_t i = 0; i < count; i++) {
-        struct ref_timers t = drawn(i);
-        ref_timer_cycles(&t, draw(i, 14) % limit);
-        h = mixed(h, ended(&t));
-    }
-    return h;
-}
-
-static uint32_t over_edges(uint32_t count)
-{
-    uint32_t h = 0;
-    for (uint32_t i = 0; i < count; i++) {
-        struct ref_timers t = drawn(i);
-        ref_timer_edge(&t);
-        h = mixed(h, ended(&t));
-    }
-    return h;
-}
-
-static uint32_t over_writes(uint32_t count)
-{
-    uint32_t h = 0;
-    for (uint32_t i = 0; i < count; i++) {
-        struct ref_timers t = drawn(i);
-        ref_write_tmr(&t, (uint8_t)(draw(i, 15) % 256));
-        h = mixed(h, state(t.tmr, &t));
-    }
-    return h;
-}
-
 int main(void)
 {
-    static const char *const names[] = { "ADD", "ADC", "SUB", "SBC", "CP", "AND", "OR", "XOR", "COM", "TM", "TCM", "INC",
-        "DEC", "RL", "RLC", "RR", "RRC", "SRA", "SWAP", "DA", "RCF", "SCF", "CCF" };
-    for (int op = 0; op < 23; op++)
-        line(names[op], over_bytes(op));
-    line("DECW", over_words(0));
-    line("INCW", over_words(1));
-    line("conditions", over_conditions());
+    static const struct {
+        const char *name;
+        int op;
+    } operations[] = { { "ADD", REF_ADD }, { "ADC", REF_ADC }, { "SUB", REF_SUB }, { "SBC", REF_SBC }, { "CP", REF_CP }, { "AND", REF_AND },
+        { "OR", REF_OR }, { "XOR", REF_XOR }, { "TM", REF_TM }, { "TCM", REF_TCM } };
+    for (size_t k = 0; k < sizeof operations / sizeof *operations; k++)
+        line(operations[k].name, over_bytes(operations[k].op));
     line("displacements", over_jumps());
     line("decoding", over_instructions(0));
     line("encoding", over_instructions(1));
     line("lengths", over_lengths());
-    line("spans", over_spans(262144, 4096));
-    line("long spans", over_spans(1024, 1048576));
-    line("edges", over_edges(262144));
-    line("writes to TMR", over_writes(262144));
     return 0;
 }

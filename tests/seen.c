@@ -1,0 +1,305 @@
+/* See seen.h. */
+#include "seen.h"
+
+#include <stdio.h>
+#include <stdlib.h>
+#include <string.h>
+
+#include "reference/bytes.h"
+#include "reference/machine.h"
+
+/* Register places, by 002. */
+enum { TMR = 0xF1, PRE1 = 0xF3, PRE0 = 0xF5, P01M = 0xF8, IPR = 0xF9, IRQ = 0xFA, IMR = 0xFB };
+enum { FLAGS = 0xFC, RP = 0xFD, SPH = 0xFE, SPL = 0xFF };
+
+static const char *const kind_names[KINDS] = {
+    "grants",
+    "reserved orders",
+    "refusals 5",
+    "edges",
+    "edge ends",
+    "T0 ends",
+    "T1 ends",
+    "both end",
+    "many ends",
+    "single passes",
+    "T_OUT flips",
+    "gate high",
+    "gate low",
+    "TMR loads",
+    "internal stack",
+    "external stack",
+    "stack on special",
+    "SPL wraps",
+    "SP wraps",
+    "stack over data memory's beginning",
+    "stack over the lent memory's end",
+    "data stores",
+    "data drops",
+    "data loads",
+    "data loads outside",
+    "program loads",
+    "program loads at the image's end",
+    "fetches past image",
+    "PC wraps",
+    "Ex operands",
+    "special operands",
+    "holes",
+    "DA in no row",
+    "jumps",
+    "FLAGS stored",
+    "RP stored",
+    "no image",
+    "no data",
+    "runs with ends",
+    "runs over their budget",
+    "runs stopped by 5",
+    "runs stopped at once",
+    "spans to ends of T0",
+    "spans to ends of T1",
+    "spans without an end",
+    "spans over a single pass",
+    "spans that flip T_OUT",
+    "spans with a closed gate",
+    "machines refused",
+    "machines passed",
+};
+
+static unsigned long happened[KINDS];
+
+void saw(enum kind kind, int it_happened)
+{
+    happened[kind] += it_happened != 0;
+}
+
+static unsigned word_at(const uint8_t *bytes)
+{
+    return bytes[0] * 256u + bytes[1];
+}
+
+unsigned pc_of(const struct given *g)
+{
+    return word_at(g->saved + Z8_AT_PC);
+}
+
+static unsigned opcode_of(const struct given *g)
+{
+    return ref_program(g->image, g->image_length, (uint16_t)pc_of(g));
+}
+
+/* Requests that stand when a grant is decided, less an edge's end of T1. 01: "falling edges on P32, P33, P31,
+   P30 latch requests 0, 1, 2, 3". */
+static unsigned requests_standing(const struct given *g)
+{
+    unsigned fell = g->saved[Z8_AT_PORT3] & ~g->pins[3] & 0x0Fu;
+
+    return g->saved[IRQ] | (fell >> 2 & 1) | (fell >> 2 & 2) | (fell << 1 & 4) | (fell << 3 & 8);
+}
+
+static int asks_for_grant(const struct given *g)
+{
+    return (g->saved[IMR] & 0x80) && (requests_standing(g) & g->saved[IMR] & 0x3F);
+}
+
+static int order_is_reserved(const struct given *g)
+{
+    unsigned order = g->saved[IPR] & 0x19u;
+
+    return order == 0 || order == 0x19;
+}
+
+static void see_interrupts(const struct given *g)
+{
+    saw(GRANTS, asks_for_grant(g) && !order_is_reserved(g));
+    saw(RESERVED_ORDERS, asks_for_grant(g) && order_is_reserved(g));
+}
+
+static void see_timers(const struct given *g, const struct outcome *after)
+{
+    unsigned fell = g->saved[Z8_AT_PORT3] & ~g->pins[3] & 0x0Fu;
+    unsigned source = (g->saved[PRE1] & 2) ? 0x40 : g->saved[TMR] & 0x30u;
+    int t1_counts = g->saved[TMR] & 8;
+
+    saw(EDGES, fell);
+    saw(EDGE_ENDS, (fell & 2) && source == 0 && t1_counts && g->saved[Z8_AT_T1_PRESCALER] == 1
+                       && g->saved[Z8_AT_T1_COUNTER] == 1);
+    saw(GATE_HIGH, source == 0x10 && t1_counts && (g->pins[3] & 2));
+    saw(GATE_LOW, source == 0x10 && t1_counts && !(g->pins[3] & 2));
+    saw(T0_ENDS, after->ends0);
+    saw(T1_ENDS, after->ends1);
+    saw(BOTH_END, after->ends0 && after->ends1);
+    saw(MANY_ENDS, after->ends0 > 1 || after->ends1 > 1);
+    saw(SINGLE_PASSES, (after->ends0 && !(g->saved[PRE0] & 1)) || (after->ends1 && !(g->saved[PRE1] & 1)));
+    saw(T_OUT_FLIPS, after->saved[Z8_AT_T_OUT] != g->saved[Z8_AT_T_OUT]);
+}
+
+static int is_stack_instruction(unsigned opcode)
+{
+    return opcode == 0x50 || opcode == 0x51 || opcode == 0x70 || opcode == 0x71 || opcode == 0xAF
+           || opcode == 0xBF || opcode == 0xD4 || opcode == 0xD6;
+}
+
+static int uses_stack(const struct given *g)
+{
+    return is_stack_instruction(opcode_of(g)) || (asks_for_grant(g) && !order_is_reserved(g));
+}
+
+static int stack_is_internal(const struct given *g)
+{
+    return (g->saved[P01M] & 4) != 0;
+}
+
+/* 01: "Data addresses under 2,048 (type 1) or 4,096 (type 11)". */
+static unsigned data_start(const struct given *g)
+{
+    return g->saved[Z8_AT_TYPE] == 1 ? 2048 : 4096;
+}
+
+/* Bytes pushed or popped on both sides of an edge of data memory. */
+static void see_stack_in_data(const struct given *g, unsigned before, unsigned after)
+{
+    unsigned low = before < after ? before : after, high = before < after ? after : before;
+
+    if (high - low > 3) {
+        return;
+    }
+    saw(STACK_OVER_DATA_START, low < data_start(g) && data_start(g) < high && high <= g->data_length);
+    saw(STACK_OVER_LENT_END, data_start(g) <= low && low < g->data_length && g->data_length < high);
+}
+
+static void see_stack(const struct given *g, const struct outcome *after)
+{
+    int low_moved_far = abs(after->saved[SPL] - g->saved[SPL]) > 128;
+    int high_moved_far = abs(after->saved[SPH] - g->saved[SPH]) > 128;
+
+    if (!uses_stack(g)) {
+        return;
+    }
+    saw(INTERNAL_STACK, stack_is_internal(g));
+    saw(EXTERNAL_STACK, !stack_is_internal(g));
+    saw(STACK_ON_SPECIAL, stack_is_internal(g) && (g->saved[SPL] < 4 || g->saved[SPL] >= 0x80));
+    saw(SPL_WRAPS, stack_is_internal(g) && low_moved_far);
+    saw(SP_WRAPS, !stack_is_internal(g) && high_moved_far);
+    if (!stack_is_internal(g)) {
+        see_stack_in_data(g, word_at(g->saved + SPH), word_at(after->saved + SPH));
+    }
+}
+
+static int writes_data_by_instruction(unsigned opcode)
+{
+    return opcode == 0x92 || opcode == 0x93;
+}
+
+/* Where by the papers a store to data memory can happen: LDE, LDEI, and the external stack. */
+int can_store_data(const struct given *g)
+{
+    return writes_data_by_instruction(opcode_of(g))
+           || (!stack_is_internal(g) && (is_stack_instruction(opcode_of(g)) || (g->saved[IMR] & 0x80)));
+}
+
+/* LDC, LDCI, LDE, LDEI from a memory: the address in a pair of plain registers. */
+static void see_loads(const struct given *g)
+{
+    unsigned opcode = opcode_of(g);
+    unsigned operand = ref_program(g->image, g->image_length, (uint16_t)(pc_of(g) + 1));
+    unsigned pair = (g->saved[RP] & 0xF0u) + (operand & 0x0E), address;
+
+    if (asks_for_grant(g) || pair < 4 || pair >= 0x80) {
+        return;
+    }
+    address = word_at(g->saved + pair);
+    if (opcode == 0x82 || opcode == 0x83) {
+        int lent = data_start(g) <= address && address < g->data_length;
+
+        saw(DATA_LOADS, lent);
+        saw(DATA_LOADS_OUTSIDE, !lent);
+    }
+    if (opcode == 0xC2 || opcode == 0xC3) {
+        saw(PROGRAM_LOADS, address < g->image_length);
+        saw(PROGRAM_LOADS_AT_END, address == g->image_length || address + 1 == g->image_length);
+    }
+}
+
+static void see_data(const struct given *g, const struct outcome *after)
+{
+    int stored = can_store_data(g) && g->data_length > 0 && memcmp(g->data, after->data, g->data_length) != 0;
+
+    saw(DATA_STORES, stored);
+    saw(DATA_DROPS, writes_data_by_instruction(opcode_of(g)) && !asks_for_grant(g) && !stored);
+    saw(NO_IMAGE, g->image == NULL);
+    saw(NO_DATA, g->data_length == 0);
+}
+
+static void see_instruction(const struct given *g, const struct outcome *after)
+{
+    unsigned pc = pc_of(g), opcode = opcode_of(g);
+    unsigned length = (unsigned)ref_length((int)opcode);
+    unsigned operand = ref_program(g->image, g->image_length, (uint16_t)(pc + 1));
+
+    if (asks_for_grant(g)) {
+        return;
+    }
+    saw(REFUSALS_5, after->answer == 5);
+    saw(PAST_IMAGE, pc + length > g->image_length);
+    saw(PC_WRAPS, pc + length > 0xFFFF);
+    saw(EX_OPERANDS, length > 1 && operand / 16 == 0xE);
+    saw(SPECIAL_OPERANDS, length > 1 && (operand < 4 || operand > 0xF0));
+    saw(HOLES, length > 1 && operand >= 0x80 && operand <= 0xF0 && operand / 16 != 0xE);
+    saw(DA_IN_NO_ROW, opcode == 0x40 && operand > 3 && operand < 0x80
+                          && g->saved[operand] == after->saved[operand] && g->saved[operand] % 16 > 9);
+    saw(LOADS,
+        opcode == 0xE6 && operand == TMR && (ref_program(g->image, g->image_length, (uint16_t)(pc + 2)) & 5));
+    saw(JUMPS, after->answer == 0 && word_at(after->saved + Z8_AT_PC) != (pc + length) % 65536);
+    saw(FLAGS_STORED, opcode != 0xBF && (g->saved[FLAGS] & 3) != (after->saved[FLAGS] & 3));
+    saw(RP_STORED, g->saved[RP] != after->saved[RP]);
+}
+
+void see_step(const struct given *g, const struct outcome *after)
+{
+    see_interrupts(g);
+    see_timers(g, after);
+    see_stack(g, after);
+    see_data(g, after);
+    see_loads(g);
+    see_instruction(g, after);
+}
+
+void see_run(const struct given *g, const struct outcome *after)
+{
+    saw(RUN_ENDS, after->ends0 > 0 && after->ends1 > 0 && after->ends0 != after->ends1);
+    saw(RUNS_OVER, after->answer == 0 && after->cycles > g->amount);
+    saw(RUNS_STOPPED, after->answer == 5 && after->cycles > 0);
+    saw(RUNS_STOPPED_AT_ONCE, after->answer == 5 && after->cycles == 0);
+}
+
+void see_span(const struct given *g, const struct outcome *after)
+{
+    int gated = !(g->saved[PRE1] & 2) && (g->saved[TMR] & 0x30) == 0x10 && (g->saved[TMR] & 8);
+
+    saw(SPAN_T0_ENDS, after->ends0 > 0);
+    saw(SPAN_T1_ENDS, after->ends1 > 0);
+    saw(SPANS_WITHOUT_END, after->ends0 + after->ends1 == 0);
+    saw(SPAN_SINGLE_PASSES,
+        (after->ends0 && !(g->saved[PRE0] & 1)) || (after->ends1 && !(g->saved[PRE1] & 1)));
+    saw(SPAN_T_OUT_FLIPS, after->saved[Z8_AT_T_OUT] != g->saved[Z8_AT_T_OUT]);
+    saw(SPANS_GATED, gated && !(g->saved[Z8_AT_PORT3] & 2));
+}
+
+void tell_what_happened(void)
+{
+    int kind;
+
+    printf("compare: of what was drawn:");
+    for (kind = 0; kind < KINDS; kind++) {
+        printf("%s %lu %s", kind == 0 ? "" : ",", happened[kind], kind_names[kind]);
+    }
+    printf("\n");
+}
+
+int has_happened(enum kind kind)
+{
+    if (happened[kind] == 0) {
+        printf("NEVER HAPPENED: %s\n", kind_names[kind]);
+    }
+    return happened[kind] != 0;
+}
