@@ -70,7 +70,7 @@ fn step_in(regs: &mut File, rest: &mut Rest, pins: Pins, image: &[u8], mem: &mut
     let cycles = act(regs, rest, pins, image, mem);
     if cycles == 0 {
         return Tally {
-            refusal: numbers::REFUSED_OPCODE,
+            refusal: numbers::REFUSED_OPCODE, // nothing was stored
             cycles: 0,
             ends0: 0,
             ends1: 0,
