@@ -26,9 +26,9 @@ pub extern "C" fn z8_version() -> u32
 pub extern "C" fn z8_make(saved: &mut [u8], kind: u32, cost: u32) -> u32
     ensures { λ r. ⌜ answer r (now (saved .exit)) ≡ makeOf kind cost (now (saved .entry)) ⌝ }
 {
-    let refusal = saved::length_refusal(&*saved);
-    if refusal != numbers::DONE {
-        return refusal as u32;
+    let wrong_length = saved::length_refusal(&*saved);
+    if wrong_length != numbers::DONE {
+        return wrong_length as u32;
     }
     let made = Machine::make(kind, cost);
     if made.refusal != numbers::DONE {
@@ -44,9 +44,9 @@ pub extern "C" fn z8_make(saved: &mut [u8], kind: u32, cost: u32) -> u32
 pub extern "C" fn z8_make_default(saved: &mut [u8]) -> u32
     ensures { λ r. ⌜ answer r (now (saved .exit)) ≡ makeDefaultOf (now (saved .entry)) ⌝ }
 {
-    let refusal = saved::length_refusal(&*saved);
-    if refusal != numbers::DONE {
-        return refusal as u32;
+    let refused = saved::length_refusal(&*saved);
+    if refused != numbers::DONE {
+        return refused as u32;
     }
     let m = Machine::default();
     saved::save(&mut *saved, m);
