@@ -3,22 +3,15 @@
 use libc::STDOUT_FILENO;
 use machine::Machine;
 use machine::Pins;
-use timers::Control;
-use timers::Counting;
-use timers::Lines;
-use timers::Moving;
-use timers::Timer;
-ghost use mathlib.Core.Path.{_≡_};
-ghost use Prim.Native.Nat.{_<_};
-ghost use Rattle.proved.specs.Examples.{resting};
+use machine::names;
 
-// 268 bytes of a new machine with these in R5 and FLAGS, at this program counter.
-fn fresh(r5: u8, flags: u8, pc: u8) -> [u8; 268] {
+// The saved form of a new machine with these in R5 and FLAGS, at this program counter.
+fn fresh(r5: u8, flags: u8, pc: u8) -> [u8; numbers::SAVED_LENGTH] {
     let m = Machine::default();
-    let mut s = [0u8; 268];
+    let mut s = [0u8; numbers::SAVED_LENGTH];
     saved::save(&mut s, m);
     s[5] = r5;
-    s[0xFC] = flags;
+    s[names::FLAGS as usize] = flags;
     s[257] = pc;
     s
 }
@@ -54,20 +47,20 @@ fn end() {
 // A step of the machine in these bytes, told by R4, R5, FLAGS, the program counter and its cycles.
 fn step_of(name: &[u8], s: &[u8], image: &[u8]) {
     let l = saved::load(s);
-    if l.refusal != 0 {
+    if l.refusal != numbers::DONE {
         return;
     }
     let m = l.machine;
     let mut mem = [0u8; 1];
     let r = step::step(m, high(), image, &mut mem);
-    let mut after = [0u8; 268];
+    let mut after = [0u8; numbers::SAVED_LENGTH];
     let n = r.machine;
     let pc = n.pc;
     saved::save(&mut after, n);
     io::write_all(STDOUT_FILENO, name);
     byte(b": R4 ", after[4]);
     byte(b" R5 ", after[5]);
-    byte(b" FLAGS ", after[0xFC]);
+    byte(b" FLAGS ", after[names::FLAGS as usize]);
     word(b" PC ", pc);
     count(b" cycles ", r.cycles);
     count(b" refusal ", r.refusal as u32);
@@ -104,9 +97,9 @@ fn jump() {
 // IPR 08, IMR BF, IRQ 3F, with 1234 at 000A.
 fn grant() {
     let mut s = fresh(0, 0, 0);
-    s[0xF9] = 0x08;
-    s[0xFB] = 0xBF;
-    s[0xFA] = 0x3F;
+    s[names::IPR as usize] = 0x08;
+    s[names::IMR as usize] = 0xBF;
+    s[names::IRQ as usize] = 0x3F;
     let mut image = [0xFFu8; 16];
     image[10] = 0x12;
     image[11] = 0x34;
@@ -116,13 +109,13 @@ fn grant() {
 // T0's ends in n cycles, freshly loaded by PRE0 and its start byte.
 fn span(name: &[u8], pre0: u8, prescaler: u8, start: u8, n: u32) {
     let mut s = fresh(0, 0, 0);
-    s[0xF1] = 0x02;
-    s[0xF4] = start;
-    s[0xF5] = pre0;
+    s[names::TMR as usize] = 0x02;
+    s[names::T0 as usize] = start;
+    s[names::PRE0 as usize] = pre0;
     s[259] = prescaler;
     s[260] = start;
     let l = saved::load(&s);
-    if l.refusal != 0 {
+    if l.refusal != numbers::DONE {
         return;
     }
     let m = l.machine;
@@ -153,7 +146,7 @@ fn make(cost: u32) {
 fn run(budget: u32) {
     let s = fresh(0, 0, 0);
     let l = saved::load(&s);
-    if l.refusal != 0 {
+    if l.refusal != numbers::DONE {
         return;
     }
     let m = l.machine;
@@ -177,46 +170,26 @@ fn line(divider: u32, ends0: u32, ends1: u32) {
     io::write_all(STDOUT_FILENO, b"\n");
 }
 
-// A timer as after a reset.
-fn resting() -> Counting
-    ensures { λ r. ⌜ r ≡ resting ⌝ }
-{
-    let timer = Timer {
-        prescaler: 64,
-        counter: 256,
-    };
-    Counting {
-        timer,
-        enabled: false,
+// Both timers repeating and clocked internally, with P 1 and N 1, freshly loaded and enabled.
+fn longest_span(divider: u8) {
+    let mut s = fresh(0, 0, 0);
+    s[names::TMR as usize] = 0x0A;
+    s[names::T1 as usize] = 1;
+    s[names::PRE1 as usize] = 7;
+    s[names::T0 as usize] = 1;
+    s[names::PRE0 as usize] = 5;
+    s[258] = divider;
+    s[259] = 1;
+    s[260] = 1;
+    s[261] = 1;
+    s[262] = 1;
+    let l = saved::load(&s);
+    if l.refusal != numbers::DONE {
+        return;
     }
-}
-
-// Both timers repeating and clocked internally, with P 1 and N 1, and 0F written to TMR: loaded and enabled.
-fn longest_span(divider: u32)
-    requires { ⌜ divider < 4 ⌝ }
-{
-    let t0 = resting();
-    let t1 = resting();
-    let lines = Lines { irq: 0, tout: true };
-    let before = Moving {
-        divider,
-        t0,
-        t1,
-        lines,
-    };
-    let c = Control {
-        tmr: 0x0F,
-        t1: 1,
-        pre1: 7,
-        t0: 1,
-        pre0: 5,
-        port3: 0xFF,
-    };
-    let loaded = timers::clock::write_tmr(c, before);
-    let mut held = c;
-    held.tmr = timers::registers::kept(c.tmr);
-    let x = timers::clock::span(held, loaded, 4294967295);
-    line(divider, x.ends0, x.ends1);
+    let m = l.machine;
+    let x = step::span(m, 4294967295);
+    line(divider as u32, x.ends0, x.ends1);
 }
 
 fn main() {
