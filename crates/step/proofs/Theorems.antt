@@ -128,7 +128,10 @@ module _ (p : Pins) (image : List ℕ) (lp : LegalPins p) (li : AllRead image) w
       -- as many turns as the budget has cycles are enough: a run that isn't refused has reached it
       pub run-stops : runOf p image mem m budget .refusal ≡ 0 → budget ≤ runOf p image mem m budget .cycles
       unfolding runOf
-      run-stops = by-test (λ (r : Progress). r .refusal ≡ 0 → budget ≤ r .cycles) (eqb (budgetRefusal budget) 0) (λ t d. reaches d (decLt (stepsOf p image mem m budget .cycles) budget)) (λ t d. absurd (eqb-false (budgetRefusal budget) 0 t d))
+      run-stops =
+          by-test (λ (r : Progress). r .refusal ≡ 0 → budget ≤ r .cycles) (eqb (budgetRefusal budget) 0)
+          (λ t d. reaches d (decLt (stepsOf p image mem m budget .cycles) budget))
+          (λ t d. absurd (eqb-false (budgetRefusal budget) 0 t d))
         where
           reaches : stepsOf p image mem m budget .refusal ≡ 0 → Dec (stepsOf p image mem m budget .cycles < budget) → budget ≤ stepsOf p image mem m budget .cycles
           reaches d (yes h) = ran .going d h

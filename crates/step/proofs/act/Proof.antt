@@ -42,14 +42,32 @@ same-length c = search needs
 
 returns : tie.Need-returns
 unfolding grantedOr grantOf
-returns c = let g = rw (c .before .before .before .before .before .before .before .before .before .held3 .ensures, c .before .before .before .before .before .before .before .before .before .before .before .held2 .ensures, c .before .before .before .before .before .before .before .before .before .before .before .before .before .held .ensures) at (c .before .before .before .before .before .before .before .before .granted .ensures) in rw (← g, c .before .before .before .before .before .before .enum-told .given .1) (c .before .before .execute-here .ensures)
+returns c =
+    let done : tie.After-execute-here = c .before .before in
+    let none : tie.After-enum-told = done .before .before .before .before in
+    let grant : tie.After-granted = none .before .before in
+    let ipr : tie.After-held3 = grant .before in
+    let imr : tie.After-held2 = ipr .before .before in
+    let irq : tie.After-held = imr .before .before in
+    let grant-is = rw (ipr .held3 .ensures, imr .held2 .ensures, irq .held .ensures) at (grant .granted .ensures) in
+    rw (← grant-is, none .enum-told .given .1) (done .execute-here .ensures)
 
 same-length-2 : tie.Need-same-length-2
 same-length-2 c = search needs
 
 returns-2 : tie.Need-returns-2
 unfolding grantedOr grantOf
-returns-2 c = let g = rw (c .before .before .before .before .before .before .before .before .before .before .before .before .held3 .ensures, c .before .before .before .before .before .before .before .before .before .before .before .before .before .before .held2 .ensures, c .before .before .before .before .before .before .before .before .before .before .before .before .before .before .before .before .held .ensures) at (c .before .before .before .before .before .before .before .before .before .before .before .granted .ensures) in rw (← g, c .before .before .before .before .before .before .before .before .before .g .given .1, c .before .before .before .before .before .before .cost .ensures) (entered-left (c .before .before .before .before .before .before .before .before .before .before .before .before .before .before .before .before .before .before .before .before .args .pins) _ _ _ _ _ (c .before .before .enter .ensures))
+returns-2 c =
+    let entered : tie.After-enter = c .before .before in
+    let cost : tie.After-cost = entered .before .before .before .before in
+    let request : tie.After-g = cost .before .before .before in
+    let grant : tie.After-granted = request .before .before in
+    let ipr : tie.After-held3 = grant .before in
+    let imr : tie.After-held2 = ipr .before .before in
+    let irq : tie.After-held = imr .before .before in
+    let st : tie.Start = irq .before .before .before .before in
+    let grant-is = rw (ipr .held3 .ensures, imr .held2 .ensures, irq .held .ensures) at (grant .granted .ensures) in
+    rw (← grant-is, request .g .given .1, cost .cost .ensures) (entered-left (st .args .pins) _ _ _ _ _ (entered .enter .ensures))
 
 pub act-spec : {M : Type 1} → statement M
 act-spec =

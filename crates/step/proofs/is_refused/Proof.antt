@@ -1,15 +1,31 @@
 use borrow.Author.Needs.{needs}
 use Rattle.step.proofs.is_refused.Statement.{statement}
 use Rattle.step.proofs.is_refused.Tie as tie
-use mathlib.Core.Path.{sym, _∙_, subst}
+use mathlib.Core.Path.{sym, _∙_, subst, _≡_}
 use denote.Ref.{now}
 use lib.Dec.{T}
 use borrow.Author.Tests.{not-true, not-false}
+use Rattle.machine.specs.declared.Machine.{Machine}
 use Rattle.lent.specs.View.{machineIn}
 use Rattle.interrupts.proofs.Orders.{granted-standing}
+use Rattle.interrupts.specs.Edges.{comparedOf}
+use Rattle.interrupts.specs.Grants.{grantOf}
 use Rattle.step.specs.ForCode.{isRefusedOf}
 use Rattle.step.proofs.Acts.{granted-is}
 use Rattle.step.proofs.Theorems.{told-refused, told-taken, granted-taken}
+
+-- what is granted when the pins are compared
+module _ (s : tie.After-highest) where
+  abbrev start : tie.Start
+  start = s .before .before .before .before .before .before
+
+  abbrev given : Machine
+  given = machineIn (now (start .args .regs)) (now (start .args .rest))
+
+  grant-is : grantOf (comparedOf given (start .args .pins .port3) .machine) ≡ s .highest .result
+  grant-is =
+      let standing = rw (s .before .before .held2 .ensures, s .before .standing .ensures, s .before .before .before .held .ensures, s .before .before .before .before .requests .ensures) at (s .highest .ensures) in
+      sym (granted-is (start .args .pins) given (start .pre)) ∙ sym (rw granted-standing at standing)
 
 requests-requires : tie.Need-requests-requires
 requests-requires c κs = search needs
@@ -44,20 +60,31 @@ enum-told-2 c = search needs
 returns : tie.Need-returns
 unfolding isRefusedOf
 returns c =
-    let g = rw (c .before .before .before .before .before .before .before .held2 .ensures, c .before .before .before .before .before .before .standing .ensures, c .before .before .before .before .before .before .before .before .held .ensures, c .before .before .before .before .before .before .before .before .before .requests .ensures, granted-standing) at (c .before .before .before .before .before .highest .ensures) in
-    let none = sym (granted-is (c .before .before .before .before .before .before .before .before .before .before .before .args .pins) (machineIn (now (c .before .before .before .before .before .before .before .before .before .before .before .args .regs)) (now (c .before .before .before .before .before .before .before .before .before .before .before .args .rest))) (c .before .before .before .before .before .before .before .before .before .before .before .pre)) ∙ sym g ∙ c .before .before .before .enum-told .given .1 in
-    let d = rw (c .before .program .ensures, c .before .before .pc .ensures) at (c .is-defined .ensures) in (
-      rw (none, d),
-      (λ t mem. told-refused (c .before .before .before .before .before .before .before .before .before .before .before .args .pins) (now (c .before .before .before .before .before .before .before .before .before .before .before .args .image)) mem (machineIn (now (c .before .before .before .before .before .before .before .before .before .before .before .args .regs)) (now (c .before .before .before .before .before .before .before .before .before .before .before .args .rest))) (c .before .before .before .before .before .before .before .before .before .before .before .pre) none (sym d ∙ not-true _ t), λ t mem. told-taken (c .before .before .before .before .before .before .before .before .before .before .before .args .pins) (now (c .before .before .before .before .before .before .before .before .before .before .before .args .image)) mem (machineIn (now (c .before .before .before .before .before .before .before .before .before .before .before .args .regs)) (now (c .before .before .before .before .before .before .before .before .before .before .before .args .rest))) (c .before .before .before .before .before .before .before .before .before .before .before .pre) none (sym d ∙ not-false _ t)),
+    let op : tie.After-program = c .before in
+    let here : tie.After-pc = op .before in
+    let told : tie.After-enum-told = here .before in
+    let grant : tie.After-highest = told .before .before in
+    let st = start grant in
+    let pins = st .args .pins in
+    let image = now (st .args .image) in
+    let m = given grant in
+    let none = grant-is grant ∙ told .enum-told .given .1 in
+    let known = rw (op .program .ensures, here .pc .ensures) at (c .is-defined .ensures) in (
+      rw (none, known),
+      (λ t mem. told-refused pins image mem m (st .pre) none (sym known ∙ not-true _ t), λ t mem. told-taken pins image mem m (st .pre) none (sym known ∙ not-false _ t)),
     )
 
 returns-2 : tie.Need-returns-2
 unfolding isRefusedOf
 returns-2 c =
-    let g = rw (c .before .before .before .before .held2 .ensures, c .before .before .before .standing .ensures, c .before .before .before .before .before .held .ensures, c .before .before .before .before .before .before .requests .ensures, granted-standing) at (c .before .before .highest .ensures) in
-    let some = sym (granted-is (c .before .before .before .before .before .before .before .before .args .pins) (machineIn (now (c .before .before .before .before .before .before .before .before .args .regs)) (now (c .before .before .before .before .before .before .before .before .args .rest))) (c .before .before .before .before .before .before .before .before .pre)) ∙ sym g ∙ c .enum-told2 .given .1 in (
+    let grant : tie.After-highest = c .before .before in
+    let st = start grant in
+    let pins = st .args .pins in
+    let image = now (st .args .image) in
+    let m = given grant in
+    let some = grant-is grant ∙ c .enum-told2 .given .1 in (
       rw (some),
-      (λ t mem. absurd (subst T (sym t) tt), λ t mem. granted-taken (c .before .before .before .before .before .before .before .before .args .pins) (now (c .before .before .before .before .before .before .before .before .args .image)) mem (machineIn (now (c .before .before .before .before .before .before .before .before .args .regs)) (now (c .before .before .before .before .before .before .before .before .args .rest))) (c .before .before .before .before .before .before .before .before .pre) some),
+      (λ t mem. absurd (subst T (sym t) tt), λ t mem. granted-taken pins image mem m (st .pre) some),
     )
 
 pub is-refused-spec : {M : Type 1} → statement M

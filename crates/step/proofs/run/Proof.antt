@@ -26,7 +26,13 @@ same-length c = search needs
 
 returns-2 : tie.Need-returns-2
 unfolding runOf
-returns-2 c = let within : ltb budgetMost (c .before .before .before .before .before .before .before .before .before .before .before .before .before .args .budget) ≡ false = le-ltb budgetMost (c .before .before .before .before .before .before .before .before .before .before .before .before .before .args .budget) (c .before .before .before .before .before .before .before .before .before .before .if1 .left) in rw (within) (rw (c .before .before .before .before .before .before .before .before .lend .ensures, ← c .machine-of .ensures) at (c .before .before .before .before .steps .ensures))
+returns-2 c =
+    let done : tie.After-steps = c .before .before .before .before in
+    let lent : tie.After-lend = done .before .before .before .before in
+    let few : tie.Else1 = lent .before .before in
+    let st : tie.Start = few .before .before .before in
+    let within : ltb budgetMost (st .args .budget) ≡ false = le-ltb budgetMost (st .args .budget) (few .if1 .left) in
+    rw (within) (rw (lent .lend .ensures, ← c .machine-of .ensures) at (done .steps .ensures))
 
 pub run-spec : {M : Type 1} → statement M
 run-spec =

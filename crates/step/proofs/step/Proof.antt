@@ -12,7 +12,11 @@ same-length : tie.Need-same-length
 same-length c = search needs
 
 returns : tie.Need-returns
-returns c = c .before .before .run .ensures ∙ one-run (c .before .before .before .before .before .before .args .pins) (now (c .before .before .before .before .before .before .args .image)) (now (c .before .before .before .before .before .before .args .mem)) (c .before .before .before .before .before .before .args .m)
+returns c =
+    let ran : tie.After-run = c .before .before in
+    let st : tie.Start = ran .before .before .before .before in
+    let a = st .args in
+    ran .run .ensures ∙ one-run (a .pins) (now (a .image)) (now (a .mem)) (a .m)
 
 pub step-spec : {M : Type 1} → statement M
 step-spec = tie.close (tie.spec run-requires same-length returns)

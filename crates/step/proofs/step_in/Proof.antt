@@ -7,6 +7,7 @@ use native.Mathlib.Omega.{arith}
 use Rattle.machine.specs.Legal.{Legal}
 use Rattle.machine.proofs.Legal.{LegalPins}
 use Rattle.lent.specs.View.{machineIn}
+use Rattle.deeds.proofs.Fits.{AllRead}
 use Rattle.execute.specs.ForCode.{Performed}
 use Rattle.interrupts.specs.Grants.{grantOf}
 use Rattle.step.proofs.Good.{granted-sound}
@@ -15,6 +16,12 @@ use Rattle.step.proofs.Acts.{read-any, step-refused, step-taken}
 pins-legal : (s : tie.Start) → LegalPins (s .args .pins)
 pins-legal s = search needs
 
+image-read : (s : tie.After-shared-slice-known) → AllRead (now (s .before .args .image))
+image-read s = read-any (now (s .before .args .image)) (λ i. omega (arith, s .shared-slice-known .given i))
+
+memory-read : (s : tie.After-slice-known) → AllRead (now (s .before .before .args .mem))
+memory-read s = read-any (now (s .before .before .args .mem)) (λ i. omega (arith, s .slice-known .given i))
+
 act-requires : tie.Need-act-requires
 act-requires c κs = search needs
 
@@ -22,16 +29,40 @@ same-length : tie.Need-same-length
 same-length c = search needs
 
 returns : tie.Need-returns
-returns c = step-refused (c .before .before .before .before .before .before .before .before .before .args .pins) (now (c .before .before .before .before .before .before .before .before .before .args .image)) (now (c .before .before .before .before .before .before .before .before .before .args .mem)) (machineIn (now (c .before .before .before .before .before .before .before .before .before .args .regs)) (now (c .before .before .before .before .before .before .before .before .before .args .rest))) (c .before .before .before .before .before .before .before .before .before .pre .0) (c .before .before .before .before .before .before .before .before .before .pre .1) (read-any (now (c .before .before .before .before .before .before .before .before .before .args .image)) (λ i. omega (arith, c .before .before .before .before .before .before .before .before .shared-slice-known .given i))) _ (c .before .before .before .act .ensures) (c .if1 .taken)
+returns c =
+    let acted : tie.After-act = c .before .before .before in
+    let shared : tie.After-shared-slice-known = acted .before .before .before .before .before in
+    let st : tie.Start = shared .before in
+    let image = now (st .args .image) in
+    let mem = now (st .args .mem) in
+    let m = machineIn (now (st .args .regs)) (now (st .args .rest)) in
+    step-refused (st .args .pins) image mem m (st .pre .0) (st .pre .1) (image-read shared) _ (acted .act .ensures) (c .if1 .taken)
 
 span-requires : tie.Need-span-requires
-span-requires c κs = subst Legal (sym (ap (λ (x : Performed). x .machine) (c .before .before .before .before .before .act .ensures))) (granted-sound (c .before .before .before .before .before .before .before .before .before .before .before .args .pins) (now (c .before .before .before .before .before .before .before .before .before .before .before .args .image)) (now (c .before .before .before .before .before .before .before .before .before .before .before .args .mem)) (machineIn (now (c .before .before .before .before .before .before .before .before .before .before .before .args .regs)) (now (c .before .before .before .before .before .before .before .before .before .before .before .args .rest))) (grantOf (machineIn (now (c .before .before .before .before .before .before .before .before .before .before .before .args .regs)) (now (c .before .before .before .before .before .before .before .before .before .before .before .args .rest)))) (c .before .before .before .before .before .before .before .before .before .before .before .pre .0) (pins-legal (c .before .before .before .before .before .before .before .before .before .before .before)) (read-any (now (c .before .before .before .before .before .before .before .before .before .before .before .args .image)) (λ i. omega (arith, c .before .before .before .before .before .before .before .before .before .before .shared-slice-known .given i))) (read-any (now (c .before .before .before .before .before .before .before .before .before .before .before .args .mem)) (λ i. omega (arith, c .before .before .before .before .before .before .before .before .before .slice-known .given i))) .legal)
+span-requires c κs =
+    let acted : tie.After-act = c .before .before .before .before .before in
+    let bytes : tie.After-slice-known = acted .before .before .before .before in
+    let shared : tie.After-shared-slice-known = bytes .before in
+    let st : tie.Start = shared .before in
+    let image = now (st .args .image) in
+    let mem = now (st .args .mem) in
+    let m = machineIn (now (st .args .regs)) (now (st .args .rest)) in
+    let sound = granted-sound (st .args .pins) image mem m (grantOf m) (st .pre .0) (pins-legal st) (image-read shared) (memory-read bytes) in
+    subst Legal (sym (ap (λ (x : Performed). x .machine) (acted .act .ensures))) (sound .legal)
 
 same-length-2 : tie.Need-same-length-2
 same-length-2 c = search needs
 
 returns-2 : tie.Need-returns-2
-returns-2 c = step-taken (c .before .before .before .before .before .before .before .before .before .before .before .before .args .pins) (now (c .before .before .before .before .before .before .before .before .before .before .before .before .args .image)) (now (c .before .before .before .before .before .before .before .before .before .before .before .before .args .mem)) (machineIn (now (c .before .before .before .before .before .before .before .before .before .before .before .before .args .regs)) (now (c .before .before .before .before .before .before .before .before .before .before .before .before .args .rest))) (c .before .before .before .before .before .before .before .before .before .before .before .before .pre .0) (c .before .before .before .before .before .before .before .before .before .before .before .before .pre .1) (read-any (now (c .before .before .before .before .before .before .before .before .before .before .before .before .args .image)) (λ i. omega (arith, c .before .before .before .before .before .before .before .before .before .before .before .shared-slice-known .given i))) _ (c .before .before .before .before .before .before .act .ensures) _ (c .before .before .before .if1 .left) (c .span .ensures)
+returns-2 c =
+    let done : tie.Else1 = c .before .before .before in
+    let acted : tie.After-act = done .before .before .before in
+    let shared : tie.After-shared-slice-known = acted .before .before .before .before .before in
+    let st : tie.Start = shared .before in
+    let image = now (st .args .image) in
+    let mem = now (st .args .mem) in
+    let m = machineIn (now (st .args .regs)) (now (st .args .rest)) in
+    step-taken (st .args .pins) image mem m (st .pre .0) (st .pre .1) (image-read shared) _ (acted .act .ensures) _ (done .if1 .left) (c .span .ensures)
 
 pub step-in-spec : {M : Type 1} → statement M
 step-in-spec =
