@@ -41,7 +41,11 @@ returns-6 c = in-part (λ hi lo. true) (λ op. defined (entryOf op)) 10 2 0 16 (
 
 returns-7 : tie.Need-returns-7
 unfolding entryOf opcodeMap
-returns-7 c = rw (c .before .before .before .before .lower .ensures) (in-part (λ hi lo. not (eqb lo 2) && not (eqb lo 4) && not (eqb lo 6) && not (eqb lo 7)) (λ op. defined (entryOf op)) 15 1 0 16 (c .before .before .before .before .before .before .args .op) (omega arith) (omega arith) refl)
+returns-7 c =
+    let low : tie.After-lower = c .before .before .before .before in
+    let st : tie.Start = low .before .before in
+    rw (low .lower .ensures)
+    (in-part (λ hi lo. not (eqb lo 2) && not (eqb lo 4) && not (eqb lo 6) && not (eqb lo 7)) (λ op. defined (entryOf op)) 15 1 0 16 (st .args .op) (omega arith) (omega arith) refl)
 
 pub is-defined-spec : {M : Type 1} → statement M
 is-defined-spec =
