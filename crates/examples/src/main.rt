@@ -4,6 +4,26 @@ use libc::STDOUT_FILENO;
 use machine::Machine;
 use machine::Pins;
 use machine::names;
+use step::Ran;
+
+// The places of control registers in a saved machine.
+const TMR: usize = names::TMR as usize;
+
+const T1: usize = names::T1 as usize;
+
+const PRE1: usize = names::PRE1 as usize;
+
+const T0: usize = names::T0 as usize;
+
+const PRE0: usize = names::PRE0 as usize;
+
+const IPR: usize = names::IPR as usize;
+
+const IRQ: usize = names::IRQ as usize;
+
+const IMR: usize = names::IMR as usize;
+
+const FLAGS: usize = names::FLAGS as usize;
 
 // The saved form of a new machine with these in R5 and FLAGS, at this program counter.
 fn fresh(r5: u8, flags: u8, pc: u8) -> [u8; numbers::SAVED_LENGTH] {
@@ -11,7 +31,7 @@ fn fresh(r5: u8, flags: u8, pc: u8) -> [u8; numbers::SAVED_LENGTH] {
     let mut s = [0u8; numbers::SAVED_LENGTH];
     saved::save(&mut s, m);
     s[5] = r5;
-    s[names::FLAGS as usize] = flags;
+    s[FLAGS] = flags;
     s[257] = pc;
     s
 }
@@ -60,7 +80,7 @@ fn step_of(name: &[u8], s: &[u8], image: &[u8]) {
     io::write_all(STDOUT_FILENO, name);
     byte(b": R4 ", after[4]);
     byte(b" R5 ", after[5]);
-    byte(b" FLAGS ", after[names::FLAGS as usize]);
+    byte(b" FLAGS ", after[FLAGS]);
     word(b" PC ", pc);
     count(b" cycles ", r.cycles);
     count(b" refusal ", r.refusal as u32);
@@ -97,29 +117,38 @@ fn jump() {
 // IPR 08, IMR BF, IRQ 3F, with 1234 at 000A.
 fn grant() {
     let mut s = fresh(0, 0, 0);
-    s[names::IPR as usize] = 0x08;
-    s[names::IMR as usize] = 0xBF;
-    s[names::IRQ as usize] = 0x3F;
+    s[IPR] = 0x08;
+    s[IMR] = 0xBF;
+    s[IRQ] = 0x3F;
     let mut image = [0xFFu8; 16];
     image[10] = 0x12;
     image[11] = 0x34;
     step_of(b"IPR 08, IMR BF, IRQ 3F", &s, &image);
 }
 
+// n cycles of the machine in these bytes.
+fn span_of(s: &[u8], n: u32) -> Ran {
+    let l = saved::load(s);
+    let m = l.machine;
+    if l.refusal != numbers::DONE {
+        return Ran {
+            ends0: 0,
+            ends1: 0,
+            machine: m,
+        };
+    }
+    step::span(m, n)
+}
+
 // T0's ends in n cycles, freshly loaded by PRE0 and its start byte.
 fn span(name: &[u8], pre0: u8, prescaler: u8, start: u8, n: u32) {
     let mut s = fresh(0, 0, 0);
-    s[names::TMR as usize] = 0x02;
-    s[names::T0 as usize] = start;
-    s[names::PRE0 as usize] = pre0;
+    s[TMR] = 0x02;
+    s[T0] = start;
+    s[PRE0] = pre0;
     s[259] = prescaler;
     s[260] = start;
-    let l = saved::load(&s);
-    if l.refusal != numbers::DONE {
-        return;
-    }
-    let m = l.machine;
-    let x = step::span(m, n);
+    let x = span_of(&s, n);
     io::write_all(STDOUT_FILENO, name);
     count(b": ", n);
     count(b" cycles, ends ", x.ends0);
@@ -173,22 +202,17 @@ fn line(divider: u32, ends0: u32, ends1: u32) {
 // Both timers repeating and clocked internally, with P 1 and N 1, freshly loaded and enabled.
 fn longest_span(divider: u8) {
     let mut s = fresh(0, 0, 0);
-    s[names::TMR as usize] = 0x0A;
-    s[names::T1 as usize] = 1;
-    s[names::PRE1 as usize] = 7;
-    s[names::T0 as usize] = 1;
-    s[names::PRE0 as usize] = 5;
+    s[TMR] = 0x0A;
+    s[T1] = 1;
+    s[PRE1] = 7;
+    s[T0] = 1;
+    s[PRE0] = 5;
     s[258] = divider;
     s[259] = 1;
     s[260] = 1;
     s[261] = 1;
     s[262] = 1;
-    let l = saved::load(&s);
-    if l.refusal != numbers::DONE {
-        return;
-    }
-    let m = l.machine;
-    let x = step::span(m, 4294967295);
+    let x = span_of(&s, 4294967295);
     line(divider as u32, x.ends0, x.ends1);
 }
 

@@ -10,7 +10,7 @@ use borrow.Author.Tests.{eqb-true, eqb-false, eq-eqb, ne-eqb, le-leb}
 use lib.Dec.{T, eqb, leb, eqb→eq, leb→le, le→leb, lit<, lit≤}
 use lib.ListN.{getD, length, take, drop, length-append, take-append-drop, drop-of-length-le, List·getD-eq-default, List·getD-append}
 use lib.Seq.{drop-cons, length-take-le, getD-take, getD-append-add, take-at}
-use Rattle.numbers.specs.Numbers.{refusedLength, savedLength}
+use Rattle.numbers.specs.Numbers.{refusedMachine, refusedLength, savedLength}
 use Rattle.word.specs.Choose.{pick, oneIf}
 use Rattle.word.specs.Fields.{bitOf, lower, wordOf, highByte, lowByte}
 use Rattle.word.proofs.Computed.{by-test, agree, and-left, and-right}
@@ -34,19 +34,18 @@ right-length s e = eqb-true (length s) savedLength (is-true (eqb (length s) save
     is-true false h = absurd (omega arith)
 
 -- what is not refused is so too, and legal
-pub loads-268 : (s : List ℕ) → refusalOf s ≡ 0 → length s ≡ 268
+pub loads-long : (s : List ℕ) → refusalOf s ≡ 0 → length s ≡ savedLength
 unfolding refusalOf
-loads-268 s e = eqb-true (length s) 268 (is-true (eqb (length s) 268) (legalRefusal s) e)
+loads-long s = λ e. right-length s (first-none (lengthRefusal s) (legalRefusal s) e)
   where
-    is-true : (b : Bool) (x : ℕ) → firstOf (pick b 0 7 ∷ x ∷ []) ≡ 0 → b ≡ true
-    is-true true x h = refl
-    is-true false x h = absurd (omega arith)
+    first-none : (a b : ℕ) → firstOf (a ∷ b ∷ []) ≡ 0 → a ≡ 0
+    first-none a b = by-test (λ (r : ℕ). r ≡ 0 → a ≡ 0) (eqb a 0) (λ t h. eqb-true a 0 t) (λ t h. h)
 
 pub loads-legal : (s : List ℕ) → refusalOf s ≡ 0 → T (legalOf s)
 unfolding refusalOf
-loads-legal s e = is-legal (eqb (length s) 268) (legalOf s) e
+loads-legal s e = is-legal (eqb (length s) savedLength) (legalOf s) e
   where
-    is-legal : (b l : Bool) → firstOf (pick b 0 7 ∷ pick l 0 6 ∷ []) ≡ 0 → T l
+    is-legal : (b l : Bool) → firstOf (pick b 0 refusedLength ∷ pick l 0 refusedMachine ∷ []) ≡ 0 → T l
     is-legal true true h = tt
     is-legal true false h = absurd (omega arith)
     is-legal false l h = absurd (omega arith)
@@ -205,7 +204,7 @@ hole-empty s t a e =
     within : (b : ℕ) → b ≤ 0xF0 → b < 0x80 + 113
     within b h = omega arith
 
-module _ (s : List ℕ) (long : length s ≡ 268) (bytes : (i : ℕ) → byte s i < 256) (f : Facts s) where
+module _ (s : List ℕ) (long : length s ≡ savedLength) (bytes : (i : ℕ) → byte s i < 256) (f : Facts s) where
   place-fits : (a : ℕ) → T (mayHold a (byte s a))
   unfolding mayHold
   place-fits a =
@@ -276,7 +275,7 @@ module _ (s : List ℕ) (long : length s ≡ 268) (bytes : (i : ℕ) → byte s 
 
 -- ---- a legal machine, saved
 module _ (m : Machine) (l : Legal m) where
-  pub saved-long : length (savedOf m) ≡ 268
+  pub saved-long : length (savedOf m) ≡ savedLength
   unfolding savedOf restOf
   saved-long = length-append (m .regs) (restOf m) ∙ rw (l .file .long)
 
@@ -402,16 +401,16 @@ pub bytes-and-back : (s : List ℕ) → ((i : ℕ) → byte s i < 256) → refus
     → Legal (machineOf s) × (loadOf s ≡ record { refusal = 0; machine = machineOf s }) × (savedOf (machineOf s) ≡ s)
 unfolding loadOf
 bytes-and-back s bytes e =
-    let long = loads-268 s e in
+    let long = loads-long s e in
     let f = facts s (loads-legal s e) in
     (legal-loads s long bytes f, rw e, saved-back s long bytes f)
 
 -- and a legal machine's saved form is 268 bytes, is not refused and loads to it
 pub machine-and-back : (m : Machine) → Legal m
-    → (length (savedOf m) ≡ 268) × (refusalOf (savedOf m) ≡ 0) × (loadOf (savedOf m) ≡ record { refusal = 0; machine = m })
+    → (length (savedOf m) ≡ savedLength) × (refusalOf (savedOf m) ≡ 0) × (loadOf (savedOf m) ≡ record { refusal = 0; machine = m })
 unfolding refusalOf loadOf
 machine-and-back m l =
-    let long : eqb (length (savedOf m)) 268 ≡ true = eq-eqb (length (savedOf m)) 268 (saved-long m l) in
+    let long : eqb (length (savedOf m)) savedLength ≡ true = eq-eqb (length (savedOf m)) savedLength (saved-long m l) in
     let legal : legalOf (savedOf m) ≡ true = passed (legalOf (savedOf m)) (legal-saves m l) in
     (saved-long m l, rw (long, legal), rw (long, legal, loads-back m l))
   where

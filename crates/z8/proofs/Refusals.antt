@@ -5,13 +5,14 @@ use Prim.Native.Nat.{ℕ}
 use lib.Dec.{eqb}
 use lib.ListN.{length}
 use borrow.Author.Tests.{eqb-true, eq-eqb, ne-eqb}
+use Rattle.numbers.specs.Numbers.{savedLength}
 use Rattle.word.specs.Choose.{pick}
 use Rattle.word.proofs.Computed.{by-test}
 use Rattle.machine.specs.Legal.{Legal}
 use Rattle.machine.specs.declared.Machine.{Machine}
 use Rattle.saved.specs.Saved.{machineOf, firstOf, refusalOf}
 use Rattle.saved.specs.declared.Loaded.{Loaded}
-use Rattle.saved.proofs.RoundTrip.{loads-268}
+use Rattle.saved.proofs.RoundTrip.{loads-long}
 use Rattle.z8.specs.Calls.{Answer, answer, imageRefusal, memoryRefusal}
 use Rattle.saved.specs.ForCode.{loadOf}
 use Rattle.z8.specs.ForCode.{admittedOf}
@@ -37,8 +38,8 @@ module _ (s : List ℕ) (r : Loaded) (e : r ≡ loadOf s) where
   unfolding loadOf
   load-refuses = ap (λ (l : Loaded). l .refusal) e
 
-  pub load-268 : r .refusal ≡ 0 → length s ≡ 268
-  load-268 z = loads-268 s (sym load-refuses ∙ z)
+  pub load-long : r .refusal ≡ 0 → length s ≡ savedLength
+  load-long z = loads-long s (sym load-refuses ∙ z)
 
   pub load-machine : r .refusal ≡ 0 → r .machine ≡ machineOf s
   unfolding loadOf
@@ -70,7 +71,7 @@ module _ (s : List ℕ) (r : Loaded) (e : r ≡ loadOf s) where
 
 -- what is known of a machine that was loaded and admitted; where one test more is made, it is the first that applies
 pub record Admitted (s image memory : List ℕ) (m : Machine) : Type 0 where
-  pub long : length s ≡ 268
+  pub long : length s ≡ savedLength
   pub legal : Legal m
   pub is : m ≡ machineOf s
   pub next : (n : ℕ) → firstOf (refusalOf s ∷ imageRefusal image ∷ memoryRefusal memory ∷ n ∷ []) ≡ n
@@ -80,7 +81,7 @@ pub admitted-is : (s image memory : List ℕ) (r : Loaded) → (r ≡ loadOf s) 
 admitted-is s image memory r l n a z =
     let loaded : r .refusal ≡ 0 = admitted-loaded s r (l .0) image memory n a z in
     record {
-      long = load-268 s r (l .0) loaded;
+      long = load-long s r (l .0) loaded;
       legal = l .1 loaded;
       is = load-machine s r (l .0) loaded;
       next = λ next. admitted-next s r (l .0) image memory n a next z;

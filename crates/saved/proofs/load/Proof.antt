@@ -5,7 +5,7 @@ use mathlib.Core.Path.{_∙_, sym}
 use native.Mathlib.Omega.{arith}
 use borrow.Author.Tests.{ne-eqb}
 use Rattle.saved.specs.ForCode.{loadOf}
-use Rattle.saved.proofs.RoundTrip.{loads-268, bytes-and-back}
+use Rattle.saved.proofs.RoundTrip.{loads-long, bytes-and-back}
 
 check-requires : tie.Need-check-requires
 check-requires c κs = search needs
@@ -18,7 +18,7 @@ unfolding loadOf
 returns c = (rw (c .default .ensures, ← c .before .before .check .ensures, ne-eqb _ _ (c .before .if1 .taken)), λ e. absurd (c .before .if1 .taken e))
 
 machine-of-requires : tie.Need-machine-of-requires
-machine-of-requires c κs = loads-268 _ (sym (c .before .check .ensures) ∙ c .if1 .left)
+machine-of-requires c κs = loads-long _ (sym (c .before .check .ensures) ∙ c .if1 .left)
 
 returns-2 : tie.Need-returns-2
 unfolding loadOf

@@ -6,7 +6,7 @@ use mathlib.Core.List.{List}
 use Prim.Native.Nat.{ℕ}
 use Rattle.machine.specs.Start.{resetOf}
 use Rattle.saved.specs.Saved.{savedOf}
-use Rattle.z8.proofs.Refusals.{is-refused, is-done, load-refuses, load-268, load-machine}
+use Rattle.z8.proofs.Refusals.{is-refused, is-done, load-refuses, load-long, load-machine}
 use Rattle.z8.specs.Calls.{answer, resetCallOf}
 
 load-requires : tie.Need-load-requires
@@ -26,7 +26,7 @@ reset-requires : tie.Need-reset-requires
 reset-requires c κs = search needs
 
 save-requires : tie.Need-save-requires
-save-requires c κs = load-268 _ _ (c .before .before .before .before .before .load .ensures .0) (c .before .before .before .if1 .left)
+save-requires c κs = load-long _ _ (c .before .before .before .before .before .load .ensures .0) (c .before .before .before .if1 .left)
 
 same-length-2 : tie.Need-same-length-2
 same-length-2 c = search needs

@@ -2,7 +2,7 @@ use borrow.Author.Needs.{needs}
 use Rattle.z8.proofs.z8_span.Statement.{statement}
 use Rattle.z8.proofs.z8_span.Tie as tie
 use mathlib.Core.Path.{_∙_, sym, ap}
-use Rattle.z8.proofs.Refusals.{is-refused, is-done, load-refuses, load-268, load-machine}
+use Rattle.z8.proofs.Refusals.{is-refused, is-done, load-refuses, load-long, load-machine}
 use Rattle.z8.proofs.Ways.{span-left}
 use Rattle.z8.specs.Calls.{answer, LentSpan, spanCallOf}
 use Rattle.machine.specs.Clock.{spanOf}
@@ -25,7 +25,7 @@ span-requires : tie.Need-span-requires
 span-requires c κs = c .before .before .before .load .ensures .1 (c .before .if1 .left)
 
 save-requires : tie.Need-save-requires
-save-requires c κs = load-268 _ _ (c .before .before .before .before .before .before .load .ensures .0) (c .before .before .before .before .if1 .left)
+save-requires c κs = load-long _ _ (c .before .before .before .before .before .before .load .ensures .0) (c .before .before .before .before .if1 .left)
 
 same-length-2 : tie.Need-same-length-2
 same-length-2 c = search needs
