@@ -25,10 +25,11 @@ pins = record { port0 = 0xFF; port1 = 0xFF; port2 = 0xFF; port3 = 0xFF }
 abbrev pub executed : List ℕ → Machine → Execution
 executed image m = executeOf pins image [] m
 
--- these bytes at 0000, on v in R5 and f in FLAGS: R4, R5 and FLAGS after them
+-- the machine after the instruction of these bytes, at 0000, with v in R5 and f in FLAGS before it
 abbrev pub after : List ℕ → ℕ → ℕ → Machine
 after bytes v f = executed bytes (placed (machineAt 0x0000 v) FLAGS f) .machine
 
+-- it has this in R5 and this in FLAGS
 abbrev pub leaves : Machine → ℕ → ℕ → Bool
 leaves m value flags = eqb (held m 0x05) value && eqb (held m FLAGS) flags
 

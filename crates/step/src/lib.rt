@@ -19,7 +19,7 @@ ghost use Rattle.step.specs.Step.{grantedOr, stepOf};
 ghost use Rattle.step.specs.Run.{nothingDone, stepsOf, runOf};
 ghost use Rattle.step.specs.ForCode.{progressIn, isRefusedOf, progressOf, ranBy};
 
-// What a step or a run comes to, beside the machine and the data memory that were lent.
+// What a step or a run comes to in numbers, where the machine and the data memory are lent.
 pub struct Tally {
     pub refusal: u8,
     pub cycles: u32,
@@ -27,7 +27,7 @@ pub struct Tally {
     pub ends1: u32,
 }
 
-// The same with the machine by value.
+// What a step or a run comes to, with the machine by value; the data memory is lent.
 pub struct Progress {
     pub refusal: u8,
     pub cycles: u32,
@@ -36,7 +36,7 @@ pub struct Progress {
     pub machine: Machine,
 }
 
-// The same after some cycles and nothing else.
+// A machine after some cycles and nothing else, and each timer's ends in them.
 pub struct Ran {
     pub ends0: u32,
     pub ends1: u32,
