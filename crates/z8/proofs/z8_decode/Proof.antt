@@ -7,6 +7,14 @@ use borrow.Author.Tests.{eq-eqb, ne-eqb}
 use lib.Dec.{eqb}
 use Rattle.z8.specs.Calls.{decodeCallOf}
 
+-- the image is taken, and three of its bytes are read
+module _ (read : tie.After-fetch) where
+  abbrev of-image : tie.After-image-refusal
+  of-image = read .before .before
+
+  taken : eqb (of-image .image-refusal .result) 0 ≡ true
+  taken = eq-eqb _ _ (read .before .if1 .left)
+
 image-refusal-requires : tie.Need-image-refusal-requires
 image-refusal-requires c κs = search needs
 
@@ -39,21 +47,15 @@ returns-2 : tie.Need-returns-2
 unfolding decodeCallOf
 returns-2 c =
     let read : tie.After-fetch = c .before .before .before .before in
-    let fits : tie.Else1 = read .before in
-    let of-image : tie.After-image-refusal = fits .before in
-    let taken : eqb (of-image .image-refusal .result) 0 ≡ true = eq-eqb _ _ (fits .if1 .left) in
     let decoded = c .before .before .before .decode .ensures in
-    rw (← of-image .image-refusal .ensures, taken, ← read .fetch .ensures, ← decoded, c .before .d .given .1)
+    rw (← of-image read .image-refusal .ensures, taken read, ← read .fetch .ensures, ← decoded, c .before .d .given .1)
 
 returns-3 : tie.Need-returns-3
 unfolding decodeCallOf
 returns-3 c =
     let read : tie.After-fetch = c .before .before .before .before in
-    let fits : tie.Else1 = read .before in
-    let of-image : tie.After-image-refusal = fits .before in
-    let taken : eqb (of-image .image-refusal .result) 0 ≡ true = eq-eqb _ _ (fits .if1 .left) in
     let decoded = c .before .before .before .decode .ensures in
-    rw (← of-image .image-refusal .ensures, taken, ← read .fetch .ensures, ← decoded, c .before .d2 .given .1)
+    rw (← of-image read .image-refusal .ensures, taken read, ← read .fetch .ensures, ← decoded, c .before .d2 .given .1)
 
 pub z8-decode-spec : {M : Type 1} → statement M
 z8-decode-spec =

@@ -10,6 +10,20 @@ use Rattle.saved.proofs.RoundTrip.{right-length}
 use Rattle.machine.specs.Start.{madeOf}
 use Rattle.z8.specs.Calls.{makeOf}
 
+-- the length is right, and a machine is made or refused
+module _ (done : tie.After-make) where
+  abbrev of-length : tie.After-length-refusal
+  of-length = done .before .before
+
+  abbrev begun : tie.Start
+  begun = of-length .before .before .before
+
+  long : eqb (of-length .length-refusal .result) 0 ≡ true
+  long = eq-eqb _ _ (done .before .if1 .left)
+
+  made : done .make .result ≡ madeOf (begun .args .kind) (begun .args .cost)
+  made = done .make .ensures
+
 length-refusal-requires : tie.Need-length-refusal-requires
 length-refusal-requires c κs = search needs
 
@@ -40,13 +54,8 @@ unfolding makeOf
 returns-2 c =
     let test : tie.Then2 = c .before in
     let done : tie.After-make = test .before .before in
-    let sized : tie.Else1 = done .before in
-    let of-length : tie.After-length-refusal = sized .before in
-    let begun : tie.Start = of-length .before .before .before in
-    let long : eqb (of-length .length-refusal .result) 0 ≡ true = eq-eqb _ _ (sized .if1 .left) in
     let refused : eqb (done .make .result .refusal) 0 ≡ false = ne-eqb _ _ (test .if2 .taken) in
-    let made : done .make .result ≡ madeOf (begun .args .kind) (begun .args .cost) = done .make .ensures in
-    rw (← of-length .length-refusal .ensures, long, ← made, refused, refused)
+    rw (← of-length done .length-refusal .ensures, long done, ← made done, refused, refused)
 
 save-requires : tie.Need-save-requires
 save-requires c κs =
@@ -64,13 +73,8 @@ returns-3 c =
     let saved : tie.After-save = c .before .before in
     let test : tie.Else2 = saved .before .before .before in
     let done : tie.After-make = test .before .before in
-    let sized : tie.Else1 = done .before in
-    let of-length : tie.After-length-refusal = sized .before in
-    let begun : tie.Start = of-length .before .before .before in
-    let long : eqb (of-length .length-refusal .result) 0 ≡ true = eq-eqb _ _ (sized .if1 .left) in
     let accepted : eqb (done .make .result .refusal) 0 ≡ true = eq-eqb _ _ (test .if2 .left) in
-    let made : done .make .result ≡ madeOf (begun .args .kind) (begun .args .cost) = done .make .ensures in
-    rw (saved .save .ensures, ← of-length .length-refusal .ensures, long, ← made, accepted)
+    rw (saved .save .ensures, ← of-length done .length-refusal .ensures, long done, ← made done, accepted)
 
 pub z8-make-spec : {M : Type 1} → statement M
 z8-make-spec =
