@@ -2,9 +2,13 @@ use borrow.Author.Needs.{needs}
 use Rattle.opcodes.proofs.instruction.encode.Statement.{statement}
 use Rattle.opcodes.proofs.instruction.encode.Tie as tie
 use mathlib.Core.Path.{_≡_}
-use mathlib.Core.Bool.{true, false, _&&_}
+use mathlib.Core.Bool.{Bool, true, false, _&&_}
 use lib.Dec.{eqb}
 use Rattle.opcodes.specs.Instruction.{encodeOf}
+
+-- whether it is an instruction, as the code asks
+abbrev asked : tie.After-operand2 → Bool
+asked s = s .before .before .before .is-defined .result && (eqb (s .before .operand .result) (s .before .before .before .before .args .first) && eqb (s .operand2 .result) (s .before .before .before .before .args .second))
 
 is-defined-requires : tie.Need-is-defined-requires
 is-defined-requires c κs = search needs
@@ -23,26 +27,16 @@ unfolding encodeOf
 returns c =
     let second : tie.After-operand2 = c .before in
     let first : tie.After-operand = second .before in
-    let size : tie.After-length-of = first .before in
-    let defined : tie.After-is-defined = size .before in
-    let begun : tie.Start = defined .before in
-    let own-first = eqb (first .operand .result) (begun .args .first) in
-    let own-second = eqb (second .operand2 .result) (begun .args .second) in
-    let own : defined .is-defined .result && (own-first && own-second) ≡ true = c .if1 .taken in
-    rw (← defined .is-defined .ensures, ← size .length-of .ensures, ← first .operand .ensures, ← second .operand2 .ensures, own)
+    let own : asked second ≡ true = c .if1 .taken in
+    rw (← first .before .before .is-defined .ensures, ← first .before .length-of .ensures, ← first .operand .ensures, ← second .operand2 .ensures, own)
 
 returns-2 : tie.Need-returns-2
 unfolding encodeOf
 returns-2 c =
     let second : tie.After-operand2 = c .before in
     let first : tie.After-operand = second .before in
-    let size : tie.After-length-of = first .before in
-    let defined : tie.After-is-defined = size .before in
-    let begun : tie.Start = defined .before in
-    let own-first = eqb (first .operand .result) (begun .args .first) in
-    let own-second = eqb (second .operand2 .result) (begun .args .second) in
-    let own : defined .is-defined .result && (own-first && own-second) ≡ false = c .if1 .left in
-    rw (← defined .is-defined .ensures, ← size .length-of .ensures, ← first .operand .ensures, ← second .operand2 .ensures, own)
+    let own : asked second ≡ false = c .if1 .left in
+    rw (← first .before .before .is-defined .ensures, ← first .before .length-of .ensures, ← first .operand .ensures, ← second .operand2 .ensures, own)
 
 pub encode-spec : {M : Type 1} → statement M
 encode-spec =
