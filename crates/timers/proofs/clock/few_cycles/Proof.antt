@@ -66,10 +66,8 @@ returns-3 c =
     let t1 : tie.After-few-ticks2 = test .before .before in
     let few : tie.Else2 = t1 .before .before in
     let t0 : tie.After-few-ticks = few .before .before in
-    let st : tie.Start = t0 .before .before .before .before .before .before .before in
-    let a = st .args in
-    let first : t0 .few-ticks .result .few ≡ true = not-false _ (few .if2 .left) in
-    rw (c .as-before2 .ensures) (few-not1 (settingOf (a .c)) (a .n) (a .m) _ (is0 t0) _ (is1 t1) first (not-true _ (test .if3 .taken)))
+    let a = t0 .before .before .before .before .before .before .before .args in
+    rw (c .as-before2 .ensures) (few-not1 (settingOf (a .c)) (a .n) (a .m) _ (is0 t0) _ (is1 t1) (not-false _ (few .if2 .left)) (not-true _ (test .if3 .taken)))
 
 returns-4 : tie.Need-returns-4
 returns-4 c =
@@ -77,10 +75,8 @@ returns-4 c =
     let t1 : tie.After-few-ticks2 = test .before .before in
     let few : tie.Else2 = t1 .before .before in
     let t0 : tie.After-few-ticks = few .before .before in
-    let st : tie.Start = t0 .before .before .before .before .before .before .before in
-    let a = st .args in
-    let first : t0 .few-ticks .result .few ≡ true = not-false _ (few .if2 .left) in
-    rw (t0 .before .go-round .ensures) (few-both (settingOf (a .c)) (a .n) (a .m) _ (is0 t0) _ (is1 t1) first (not-false _ (test .if3 .left)))
+    let a = t0 .before .before .before .before .before .before .before .args in
+    rw (t0 .before .go-round .ensures) (few-both (settingOf (a .c)) (a .n) (a .m) _ (is0 t0) _ (is1 t1) (not-false _ (few .if2 .left)) (not-false _ (test .if3 .left)))
 
 pub few-cycles-spec : {M : Type 1} → statement M
 few-cycles-spec =

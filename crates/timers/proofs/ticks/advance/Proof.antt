@@ -18,6 +18,14 @@ module _ (s : tie.Else1) where
   far : (moves (begun .args .by) (begun .args .s) (begun .args .c) ≡ true) × (begun .args .c .timer .prescaler ≤ begun .args .k)
   far = not-shortly _ _ _ _ (sym (s .before .is-short .ensures) ∙ s .if1 .left)
 
+-- and the count ends
+module _ (s : tie.Else2) where
+  abbrev many : tie.Else1
+  many = s .before .before
+
+  past-end : begun many .args .s .p * (begun many .args .c .timer .counter - 1) ≤ begun many .args .k - begun many .args .c .timer .prescaler
+  past-end = rw (s .before .ticks-in .ensures) at (s .if2 .left)
+
 is-short-requires : tie.Need-is-short-requires
 is-short-requires c κs = search needs
 
@@ -64,13 +72,10 @@ returns-3 : tie.Need-returns-3
 returns-3 c =
     let test : tie.Then3 = c .before in
     let ended : tie.Else2 = test .before in
-    let left : tie.After-ticks-in = ended .before in
-    let many : tie.Else1 = left .before in
-    let st = begun many in
+    let st : tie.Start = ended .before .before .before .before .before in
     let a = st .args in
-    let past-end : a .s .p * (a .c .timer .counter - 1) ≤ a .k - a .c .timer .prescaler = rw (left .ticks-in .ensures) at (ended .if2 .left) in
     let single : a .s .repeats ≡ false = not-true _ (test .if3 .taken) in
-    rw (c .stopped .ensures) (sym (ticks-stops (a .by) (a .s) (a .c) (far many .0) (a .k) (st .pre .0) (st .pre .1) (far many .1) past-end single))
+    rw (c .stopped .ensures) (sym (ticks-stops (a .by) (a .s) (a .c) (far (many ended) .0) (a .k) (st .pre .0) (st .pre .1) (far (many ended) .1) (past-end ended) single))
 
 ticks-in-requires-2 : tie.Need-ticks-in-requires-2
 ticks-in-requires-2 c κs = search needs
@@ -101,14 +106,11 @@ returns-4 c =
     let whole : tie.After-ticks-in2 = c .before in
     let test : tie.Else3 = whole .before in
     let ended : tie.Else2 = test .before in
-    let left : tie.After-ticks-in = ended .before in
-    let many : tie.Else1 = left .before in
-    let st = begun many in
+    let st : tie.Start = ended .before .before .before .before .before in
     let a = st .args in
-    let past-end : a .s .p * (a .c .timer .counter - 1) ≤ a .k - a .c .timer .prescaler = rw (left .ticks-in .ensures) at (ended .if2 .left) in
     let repeating : a .s .repeats ≡ true = not-false _ (test .if3 .left) in
     rw (c .down2 .ensures)
-    (sym (ticks-repeats (a .by) (a .s) (a .c) (far many .0) (a .k) (st .pre .0) (st .pre .1) (far many .1) past-end repeating _ _ (rw (left .ticks-in .ensures)) (whole .ticks-in2 .ensures)))
+    (sym (ticks-repeats (a .by) (a .s) (a .c) (far (many ended) .0) (a .k) (st .pre .0) (st .pre .1) (far (many ended) .1) (past-end ended) repeating _ _ (rw (ended .before .ticks-in .ensures)) (whole .ticks-in2 .ensures)))
 
 pub advance-spec : {M : Type 1} → statement M
 advance-spec =
