@@ -17,7 +17,7 @@ use Rattle.interrupts.specs.Edges.{Comparison}
 use Rattle.interrupts.proofs.Steady.{compared-last}
 use Rattle.interrupts.proofs.Legal.{compared-legal, compared-ends}
 use Rattle.step.specs.ForCode.{progressIn}
-use Rattle.step.specs.Run.{stepsOf}
+use Rattle.step.specs.Run.{stepsOf, budgetMost}
 use Rattle.step.proofs.Acts.{read-any}
 use Rattle.step.proofs.Turns.{SoFar, at-first, was-taken, one-on, was-refused, reached, refused-first, compared-before, allTurns}
 use Rattle.step.specs.Step.{Progress}
@@ -81,6 +81,12 @@ module _ (s : tie.After-step-in Inv-loop μ-loop) where
   taken : s .step-in .result .refusal ≡ 0 → Taken came
   taken = was-taken _ _ _ _ _ _ (pins-legal (shared .before)) (image-read shared) (turn .before .loop .inv .0) (turn .loop-test .taken) (s .step-in .ensures)
 
+  goes : turn .before .loop .cycles < shared .before .args .budget
+  goes = turn .loop-test .taken
+
+  limited : shared .before .args .budget ≤ budgetMost
+  limited = shared .before .pre .1
+
   as-long : length (s .step-in .last .1 .1 .1 .1 .0) ≡ length (now (shared .before .args .mem))
   as-long = s .step-in .kept .1 .1 .1 .1 .0 ∙ turn .before .loop .inv .1
 
@@ -139,37 +145,28 @@ add-cycles c =
     let accepted : tie.Else3 Inv-loop μ-loop = c .before in
     let step : tie.After-step-in Inv-loop μ-loop = accepted .before .before .before .before in
     let t = taken step (accepted .if3 .left) in
-    let goes = turn step .loop-test .taken in
-    let limit = shared step .before .pre .1 in
-    omega (arith, t .costs-high, goes, limit)
+    omega (arith, t .costs-high, goes step, limited step)
 
 add-ends0 : tie.Need-add-ends0 Inv-loop μ-loop
 add-ends0 c =
     let accepted : tie.Else3 Inv-loop μ-loop = c .before .before in
     let step : tie.After-step-in Inv-loop μ-loop = accepted .before .before .before .before in
     let t = taken step (accepted .if3 .left) in
-    let so-far = turn step .before .loop .inv .0 in
-    let goes = turn step .loop-test .taken in
-    let limit = shared step .before .pre .1 in
-    omega (arith, t .costs-high, t .ends0-few, so-far .ends0-few, goes, limit)
+    omega (arith, t .costs-high, t .ends0-few, turn step .before .loop .inv .0 .ends0-few, goes step, limited step)
 
 add-ends1 : tie.Need-add-ends1 Inv-loop μ-loop
 add-ends1 c =
     let accepted : tie.Else3 Inv-loop μ-loop = c .before .before .before in
     let step : tie.After-step-in Inv-loop μ-loop = accepted .before .before .before .before in
     let t = taken step (accepted .if3 .left) in
-    let so-far = turn step .before .loop .inv .0 in
-    let goes = turn step .loop-test .taken in
-    let limit = shared step .before .pre .1 in
-    omega (arith, t .costs-high, t .ends1-few, so-far .ends1-few, goes, limit)
+    omega (arith, t .costs-high, t .ends1-few, turn step .before .loop .inv .0 .ends1-few, goes step, limited step)
 
 loop-less : tie.Need-loop-less Inv-loop μ-loop
 loop-less c =
     let accepted : tie.Else3 Inv-loop μ-loop = c .before .before .before in
     let step : tie.After-step-in Inv-loop μ-loop = accepted .before .before .before .before in
     let t = taken step (accepted .if3 .left) in
-    let goes = turn step .loop-test .taken in
-    omega (arith, t .costs-low, goes)
+    omega (arith, t .costs-low, goes step)
 
 loop-again : tie.Need-loop-again Inv-loop μ-loop
 loop-again c =
