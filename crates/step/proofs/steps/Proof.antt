@@ -17,7 +17,8 @@ use Rattle.interrupts.specs.Edges.{Comparison}
 use Rattle.interrupts.proofs.Steady.{compared-last}
 use Rattle.interrupts.proofs.Legal.{compared-legal, compared-ends}
 use Rattle.step.specs.ForCode.{progressIn}
-use Rattle.step.specs.Run.{stepsOf, budgetMost}
+use Rattle.numbers.specs.Numbers.{budgetMost}
+use Rattle.step.specs.Run.{stepsOf}
 use Rattle.step.proofs.Acts.{read-any}
 use Rattle.step.proofs.Turns.{SoFar, at-first, was-taken, one-on, was-refused, reached, refused-first, compared-before, allTurns}
 use Rattle.step.specs.Step.{Progress}

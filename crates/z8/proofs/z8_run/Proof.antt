@@ -15,19 +15,12 @@ use Rattle.step.specs.Run.{budgetRefusal, runOf}
 abbrev pins : tie.Start → Pins
 pins s = pinsGiven (s .args .pins0) (s .args .pins1) (s .args .pins2) (s .args .pins3)
 
+abbrev start : tie.Else1 → tie.Start
+start s = s .before .before .before .before .before .before .before .before
+
 -- past the first refusals
-module _ (s : tie.Else1) where
-  abbrev asked : tie.After-admitted
-  asked = s .before
-
-  abbrev load : tie.After-load
-  load = asked .before .before
-
-  abbrev start : tie.Start
-  start = load .before .before .before .before .before
-
-  known : Admitted (now (start .args .saved)) (now (start .args .image)) (now (start .args .memory)) (load .load .result .machine)
-  known = admitted-is _ _ _ _ (load .load .ensures) _ (asked .admitted .ensures) (s .if1 .left)
+known : (s : tie.Else1) → Admitted (now (start s .args .saved)) (now (start s .args .image)) (now (start s .args .memory)) (s .before .before .before .load .result .machine)
+known s = admitted-is _ _ _ _ (s .before .before .before .load .ensures) _ (s .before .admitted .ensures) (s .if1 .left)
 
 load-requires : tie.Need-load-requires
 load-requires c κs = search needs
@@ -90,14 +83,11 @@ returns-3 c =
     let done : tie.After-run = saved .before .before .before .before .before in
     let few : tie.Else2 = done .before .before .before in
     let admitted : tie.Else1 = few .before in
-    let begun = start admitted in
-    let image = now (begun .args .image) in
-    let memory = now (begun .args .memory) in
-    let budget = begun .args .budget in
-    let loaded = known admitted in
-    let went = done .run .ensures ∙ ap (λ (m : Machine). runOf (pins begun) image memory m budget) (loaded .is) in
+    let st = start admitted in
+    let budget = st .args .budget in
+    let went = done .run .ensures ∙ ap (λ (m : Machine). runOf (pins st) (now (st .args .image)) (now (st .args .memory)) m budget) (known admitted .is) in
     let within : budgetRefusal budget ≡ 0 = rw (le-ltb 1000000 budget (few .if2 .left)) in
-    ap (λ (x : Lent). answer (done .run .result .refusal) x) (left-is _ _ _ _ went (saved .save .ensures)) ∙ rw (number-is _ _ _ went) (is-done _ _ _ (loaded .next _ ∙ within))
+    ap (λ (x : Lent). answer (done .run .result .refusal) x) (left-is _ _ _ _ went (saved .save .ensures)) ∙ rw (number-is _ _ _ went) (is-done _ _ _ (known admitted .next _ ∙ within))
 
 pub z8-run-spec : {M : Type 1} → statement M
 z8-run-spec =

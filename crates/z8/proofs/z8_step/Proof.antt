@@ -19,19 +19,12 @@ pins s = pinsGiven (s .args .pins0) (s .args .pins1) (s .args .pins2) (s .args .
 pins-legal : (s : tie.Start) → LegalPins (pins s)
 pins-legal s = search needs
 
+abbrev start : tie.Else1 → tie.Start
+start s = s .before .before .before .before .before .before .before .before
+
 -- past the first refusals
-module _ (s : tie.Else1) where
-  abbrev asked : tie.After-admitted
-  asked = s .before
-
-  abbrev load : tie.After-load
-  load = asked .before .before
-
-  abbrev start : tie.Start
-  start = load .before .before .before .before .before
-
-  known : Admitted (now (start .args .saved)) (now (start .args .image)) (now (start .args .memory)) (load .load .result .machine)
-  known = admitted-is _ _ _ _ (load .load .ensures) _ (asked .admitted .ensures) (s .if1 .left)
+known : (s : tie.Else1) → Admitted (now (start s .args .saved)) (now (start s .args .image)) (now (start s .args .memory)) (s .before .before .before .load .result .machine)
+known s = admitted-is _ _ _ _ (s .before .before .before .load .ensures) _ (s .before .admitted .ensures) (s .if1 .left)
 
 load-requires : tie.Need-load-requires
 load-requires c κs = search needs
@@ -71,15 +64,14 @@ returns-2 c =
     let refused : tie.Then2 = c .before in
     let done : tie.After-step = refused .before .before .before .before in
     let admitted : tie.Else1 = done .before .before .before in
-    let begun = start admitted in
-    let image = now (begun .args .image) in
-    let memory = now (begun .args .memory) in
-    let loaded = known admitted in
-    let went = done .step .ensures ∙ ap (λ (m : Machine). stepOf (pins begun) image memory m) (loaded .is) in
-    let image-read = read-any image (λ i. omega (arith, admitted .before .before .before .before .before .before .shared-slice-known .given i)) in
-    let memory-read = read-any memory (λ i. omega (arith, admitted .before .before .before .before .before .slice-known2 .given i)) in
-    let stays = memory-stays (pins begun) _ _ _ _ _ (loaded .legal) (pins-legal begun) image-read memory-read (done .step .ensures) (refused .if2 .taken) in
-    rw stays (is-refused _ _ _ _ (loaded .next _ ∙ sym (number-is _ _ _ went)) (refused .if2 .taken))
+    let bytes : tie.After-slice-known2 = admitted .before .before .before .before .before in
+    let shared : tie.After-shared-slice-known = bytes .before in
+    let st = start admitted in
+    let went = done .step .ensures ∙ ap (λ (m : Machine). stepOf (pins st) (now (st .args .image)) (now (st .args .memory)) m) (known admitted .is) in
+    let image-read = read-any (now (st .args .image)) (λ i. omega (arith, shared .shared-slice-known .given i)) in
+    let memory-read = read-any (now (st .args .memory)) (λ i. omega (arith, bytes .slice-known2 .given i)) in
+    let stays = memory-stays (pins st) _ _ _ _ _ (known admitted .legal) (pins-legal st) image-read memory-read (done .step .ensures) (refused .if2 .taken) in
+    rw stays (is-refused _ _ _ _ (known admitted .next _ ∙ sym (number-is _ _ _ went)) (refused .if2 .taken))
 
 save-requires : tie.Need-save-requires
 save-requires c κs =
@@ -99,12 +91,9 @@ returns-3 c =
     let accepted : tie.Else2 = saved .before .before .before in
     let done : tie.After-step = accepted .before .before .before .before in
     let admitted : tie.Else1 = done .before .before .before in
-    let begun = start admitted in
-    let image = now (begun .args .image) in
-    let memory = now (begun .args .memory) in
-    let loaded = known admitted in
-    let went = done .step .ensures ∙ ap (λ (m : Machine). stepOf (pins begun) image memory m) (loaded .is) in
-    ap (λ (x : Lent). answer 0 x) (left-is _ _ _ _ went (saved .save .ensures)) ∙ is-done _ _ _ (loaded .next _ ∙ sym (number-is _ _ _ went) ∙ accepted .if2 .left)
+    let st = start admitted in
+    let went = done .step .ensures ∙ ap (λ (m : Machine). stepOf (pins st) (now (st .args .image)) (now (st .args .memory)) m) (known admitted .is) in
+    ap (λ (x : Lent). answer 0 x) (left-is _ _ _ _ went (saved .save .ensures)) ∙ is-done _ _ _ (known admitted .next _ ∙ sym (number-is _ _ _ went) ∙ accepted .if2 .left)
 
 pub z8-step-spec : {M : Type 1} → statement M
 z8-step-spec =
