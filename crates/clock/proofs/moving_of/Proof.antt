@@ -30,13 +30,13 @@ tout-requires c κs = search needs
 returns : tie.Need-returns
 unfolding movingOf
 returns c =
-    let t0-is = c .before .before .t0 .ensures in
-    let divider-is = c .before .before .before .divider .ensures in
-    let is-set-2-is = c .before .before .before .before .is-set2 .ensures in
-    let is-set-is = c .before .before .before .before .before .is-set .ensures in
-    let held-2-is = c .before .before .before .before .before .before .held2 .ensures in
-    let held-is = c .before .before .before .before .before .before .before .held .ensures in
-    rw (c .tout .ensures, c .before .t1 .ensures, t0-is, divider-is, is-set-2-is, is-set-is, held-2-is, held-is)
+    let count0 = c .before .before .t0 .ensures in
+    let divider-read = c .before .before .before .divider .ensures in
+    let enable1 = c .before .before .before .before .is-set2 .ensures in
+    let enable0 = c .before .before .before .before .before .is-set .ensures in
+    let irq = c .before .before .before .before .before .before .held2 .ensures in
+    let tmr = c .before .before .before .before .before .before .before .held .ensures in
+    simp (c .tout .ensures, c .before .t1 .ensures, count0, divider-read, enable1, enable0, irq, tmr)
 
 pub moving-of-spec : {M : Type 1} → statement M
 moving-of-spec =

@@ -28,13 +28,13 @@ cost-requires c κs = search needs
 
 returns : tie.Need-returns
 returns c =
-    let tout-is = c .before .before .tout .ensures in
-    let last3-is = c .before .before .before .last3 .ensures in
-    let t1-is = c .before .before .before .before .t1 .ensures in
-    let t0-is = c .before .before .before .before .before .t0 .ensures in
-    let divider-is = c .before .before .before .before .before .before .divider .ensures in
-    let pc-is = c .before .before .before .before .before .before .before .pc .ensures in
-    rw (c .cost .ensures, c .before .kind .ensures, tout-is, last3-is, t1-is, t0-is, divider-is, pc-is)
+    let t-out = c .before .before .tout .ensures in
+    let last-pins = c .before .before .before .last3 .ensures in
+    let count1 = c .before .before .before .before .t1 .ensures in
+    let count0 = c .before .before .before .before .before .t0 .ensures in
+    let divider-read = c .before .before .before .before .before .before .divider .ensures in
+    let pc-read = c .before .before .before .before .before .before .before .pc .ensures in
+    simp (c .cost .ensures, c .before .kind .ensures, t-out, last-pins, count1, count0, divider-read, pc-read)
 
 pub machine-of-spec : {M : Type 1} → statement M
 machine-of-spec =

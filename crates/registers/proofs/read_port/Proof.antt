@@ -24,11 +24,11 @@ reads-requires c κs = search needs
 returns : tie.Need-returns
 unfolding readPort
 returns c =
-    let directions-of-is = c .before .before .directions-of .ensures in
-    let held-3-is = c .before .before .before .held3 .ensures in
-    let held-2-is = c .before .before .before .before .held2 .ensures in
-    let held-is = c .before .before .before .before .before .held .ensures in
-    rw (c .reads .ensures, c .before .pins-of .ensures, directions-of-is, held-3-is, held-2-is, held-is)
+    let directions = c .before .before .directions-of .ensures in
+    let latch = c .before .before .before .held3 .ensures in
+    let p2m = c .before .before .before .before .held2 .ensures in
+    let p01m = c .before .before .before .before .before .held .ensures in
+    rw (c .reads .ensures, c .before .pins-of .ensures, directions, latch, p2m, p01m)
 
 pub read-port-spec : {M : Type 1} → statement M
 read-port-spec =

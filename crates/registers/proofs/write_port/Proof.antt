@@ -25,12 +25,12 @@ place-requires c κs = search needs
 returns : tie.Need-returns
 unfolding writePort placed
 returns c =
-    let stores-is = c .before .before .stores .ensures in
-    let directions-of-is = c .before .before .before .directions-of .ensures in
-    let held-3-is = c .before .before .before .before .held3 .ensures in
-    let held-2-is = c .before .before .before .before .before .before .held2 .ensures in
-    let held-is = c .before .before .before .before .before .before .before .before .held .ensures in
-    rw (c .place .ensures, stores-is, directions-of-is, held-3-is, held-2-is, held-is)
+    let stored = c .before .before .stores .ensures in
+    let directions = c .before .before .before .directions-of .ensures in
+    let latch = c .before .before .before .before .held3 .ensures in
+    let p2m = c .before .before .before .before .before .before .held2 .ensures in
+    let p01m = c .before .before .before .before .before .before .before .before .held .ensures in
+    rw (c .place .ensures, stored, directions, latch, p2m, p01m)
 
 pub write-port-spec : {M : Type 1} → statement M
 write-port-spec =

@@ -37,13 +37,13 @@ same-length c = search needs
 returns : tie.Need-returns
 unfolding pushedExternal storedIn
 returns c =
-    let store-bytes-is = c .before .before .store-bytes .ensures in
-    let set-sp-is = c .before .before .before .before .set-sp .ensures in
-    let kind-is = c .before .before .before .before .before .before .kind .ensures in
-    let plus-is = c .before .before .before .before .before .before .before .plus .ensures in
-    let sp-of-is = c .before .before .before .before .before .before .before .before .sp-of .ensures in
-    let count-of-is = c .before .before .before .before .before .before .before .before .before .before .count-of .ensures .0 in
-    rw (store-bytes-is, set-sp-is, kind-is, plus-is, sp-of-is, count-of-is)
+    let stored = c .before .before .store-bytes .ensures in
+    let sp-set = c .before .before .before .before .set-sp .ensures in
+    let type-read = c .before .before .before .before .before .before .kind .ensures in
+    let lowered = c .before .before .before .before .before .before .before .plus .ensures in
+    let old-sp = c .before .before .before .before .before .before .before .before .sp-of .ensures in
+    let how-many = c .before .before .before .before .before .before .before .before .before .before .count-of .ensures .0 in
+    rw (stored, sp-set, type-read, lowered, old-sp, how-many)
 
 pub push-external-spec : {M : Type 1} → statement M
 push-external-spec =

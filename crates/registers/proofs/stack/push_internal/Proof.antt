@@ -31,11 +31,11 @@ write-from-requires c κs = search needs
 returns : tie.Need-returns
 unfolding pushedInternal placed
 returns c =
-    let place-is = c .before .before .before .place .ensures in
-    let wrapping-add-u8-is = c .before .before .before .before .before .wrapping-add-u8 .ensures in
-    let held-is = c .before .before .before .before .before .before .held .ensures in
-    let count-of-is = c .before .before .before .before .before .before .before .before .count-of .ensures .0 in
-    rw (c .write-from .ensures, place-is, wrapping-add-u8-is, held-is, count-of-is)
+    let spl-put = c .before .before .before .place .ensures in
+    let lowered = c .before .before .before .before .before .wrapping-add-u8 .ensures in
+    let old-spl = c .before .before .before .before .before .before .held .ensures in
+    let how-many = c .before .before .before .before .before .before .before .before .count-of .ensures .0 in
+    rw (c .write-from .ensures, spl-put, lowered, old-spl, how-many)
 
 pub push-internal-spec : {M : Type 1} → statement M
 push-internal-spec =

@@ -19,9 +19,10 @@ place-requires c κs = search needs
 returns : tie.Need-returns
 unfolding raised placed
 returns c =
-    let wrapping-add-u8-is = c .before .before .wrapping-add-u8 .ensures in
-    let held-is = c .before .before .before .held .ensures in
-    rw (c .place .ensures, wrapping-add-u8-is, held-is, ← c .before .before .before .before .before .before .is-internal .ensures, c .before .before .before .before .before .if1 .taken)
+    let lifted = c .before .before .wrapping-add-u8 .ensures in
+    let spl = c .before .before .before .held .ensures in
+    let internal = c .before .before .before .before .before .if1 .taken in
+    rw (c .place .ensures, lifted, spl, ← c .before .before .before .before .before .before .is-internal .ensures, internal)
 
 sp-of-requires : tie.Need-sp-of-requires
 sp-of-requires c κs = search needs

@@ -40,19 +40,19 @@ returns c = rw (c .write .ensures, c .before .before .before .before .b .given .
 
 returns-2 : tie.Need-returns-2
 returns-2 c =
-    let write-2-is = c .before .before .before .write2 .ensures in
-    let wrapping-add-u8-is = c .before .before .before .before .before .before .before .before .before .before .wrapping-add-u8 .ensures in
-    let b-2-is = c .before .before .before .before .before .before .before .b2 .given .1 in
-    rw (c .write3 .ensures, write-2-is, wrapping-add-u8-is, b-2-is)
+    let first = c .before .before .before .write2 .ensures in
+    let next-address = c .before .before .before .before .before .before .before .before .before .before .wrapping-add-u8 .ensures in
+    let two = c .before .before .before .before .before .before .before .b2 .given .1 in
+    rw (c .write3 .ensures, first, next-address, two)
 
 returns-3 : tie.Need-returns-3
 returns-3 c =
-    let write-5-is = c .before .before .before .write5 .ensures in
-    let write-4-is = c .before .before .before .before .before .before .write4 .ensures in
-    let wrapping-add-u82-is = c .before .before .before .before .before .before .before .before .before .before .before .before .wrapping-add-u82 .ensures in
-    let wrapping-add-u8-is = c .before .before .before .before .before .before .before .before .before .before .before .before .before .wrapping-add-u8 .ensures in
-    let b-3-is = c .before .before .before .before .before .before .before .before .before .before .b3 .given .1 in
-    rw (c .write6 .ensures, write-5-is, write-4-is, wrapping-add-u82-is, wrapping-add-u8-is, b-3-is)
+    let second = c .before .before .before .write5 .ensures in
+    let first = c .before .before .before .before .before .before .write4 .ensures in
+    let last-address = c .before .before .before .before .before .before .before .before .before .before .before .before .wrapping-add-u82 .ensures in
+    let next-address = c .before .before .before .before .before .before .before .before .before .before .before .before .before .wrapping-add-u8 .ensures in
+    let three = c .before .before .before .before .before .before .before .before .before .before .b3 .given .1 in
+    rw (c .write6 .ensures, second, first, last-address, next-address, three)
 
 pub write-from-spec : {M : Type 1} → statement M
 write-from-spec =
