@@ -1,7 +1,9 @@
 use borrow.Author.Needs.{needs}
 use Rattle.clock.proofs.move_to.Statement.{statement}
 use Rattle.clock.proofs.move_to.Tie as tie
+use mathlib.Core.Path.{_≡_}
 use Rattle.machine.specs.Names.{TMR, IRQ}
+use Rattle.machine.specs.State.{placedIn}
 use Rattle.machine.specs.Clock.{movedTo}
 use Rattle.machine.proofs.Whole.{placed-is}
 
@@ -28,7 +30,8 @@ returns c =
     let enable-put = placed-is TMR (c .before .before .before .before .before .before .before .enabling .result) counts-put in
     let requests-put = placed-is IRQ (start .args .x .lines .irq) enable-put in
     let enabled = c .before .before .before .before .before .before .before .enabling .ensures in
-    rw (c .place2 .ensures, c .before .before .place .ensures, requests-put, enabled, c .before .before .before .before .before .before .before .before .held .ensures)
+    let requests-stored : c .place2 .last .0 ≡ placedIn _ IRQ (start .args .x .lines .irq) = c .place2 .ensures in
+    rw (requests-stored, c .before .before .place .ensures, requests-put, enabled, c .before .before .before .before .before .before .before .before .held .ensures)
 
 pub move-to-spec : {M : Type 1} → statement M
 move-to-spec =

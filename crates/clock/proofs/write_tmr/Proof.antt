@@ -1,7 +1,9 @@
 use borrow.Author.Needs.{needs}
 use Rattle.clock.proofs.write_tmr.Statement.{statement}
 use Rattle.clock.proofs.write_tmr.Tie as tie
+use mathlib.Core.Path.{_≡_}
 use Rattle.machine.specs.Names.{TMR}
+use Rattle.machine.specs.State.{placedIn}
 use Rattle.machine.specs.Clock.{writeTmr}
 use Rattle.machine.proofs.Whole.{placed-is}
 
@@ -31,7 +33,8 @@ returns c =
     let written = c .before .before .before .before .before .before .write-tmr .ensures in
     let counts = c .before .before .before .before .before .before .before .moving-of .ensures in
     let read = c .before .before .before .before .before .before .before .before .before .before .control-with .ensures in
-    rw (c .place .ensures, tmr-put, kept .ensures, written, counts, read)
+    let stored : c .place .last .0 ≡ placedIn _ TMR (kept .result) = c .place .ensures in
+    rw (stored, tmr-put, kept .ensures, written, counts, read)
 
 pub write-tmr-spec : {M : Type 1} → statement M
 write-tmr-spec =
