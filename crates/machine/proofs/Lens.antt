@@ -7,7 +7,7 @@ use native.Mathlib.Omega.{arith}
 use lib.ListN.{length}
 use lib.Bits.{bitAnd}
 use Rattle.word.proofs.Computed.{made, agree}
-use Rattle.timers.specs.Iter.{iter}
+use Rattle.word.specs.Iter.{iter}
 use Rattle.timers.specs.Control.{settingOf, enable0, enable1, toutMode, tinMode}
 use Rattle.timers.specs.Clock.{cycle, cycles, begun, LegalSetting, LegalMoving}
 use Rattle.timers.specs.declared.Moving.{Moving}

@@ -19,7 +19,7 @@ use Rattle.timers.specs.declared.Source.the-variants.{Divider}
 use Rattle.timers.specs.declared.Lines.{Lines}
 use Rattle.timers.specs.declared.Moving.{Moving}
 use Rattle.timers.specs.declared.Spanned.{Spanned}
-use Rattle.timers.proofs.Iterate.{iter-keeps}
+use Rattle.word.proofs.Iterate.{iter-keeps}
 use Rattle.timers.proofs.Formula.{formula}
 use Rattle.timers.proofs.Legal.{cycles-legal}
 use Rattle.machine.specs.State.{coreOf, held, placed}

@@ -8,7 +8,7 @@ use Rattle.word.specs.Fields.{upper, highByte, lowByte}
 use Rattle.word.specs.Words.{plus}
 use Rattle.word.proofs.Computed.{by-test}
 use Rattle.timers.specs.Clock.{written}
-use Rattle.timers.proofs.Iterate.{iter-keeps}
+use Rattle.word.proofs.Iterate.{iter-keeps}
 use Rattle.machine.specs.State.{placedIn, whole, placed}
 use Rattle.machine.specs.Clock.{movingOf, countsAt, movedTo, writeTmr, Ran, shown, cycleOf, spanOf}
 use Rattle.machine.specs.Registers.{isHole, writePort, writeReg}

@@ -2,7 +2,7 @@
 use mathlib.Core.Bool.{Bool}
 use Prim.Native.Nat.{ℕ}
 use lib.Bits.{bitAnd, bitOr}
-use Rattle.timers.specs.Iter.{iter}
+use Rattle.word.specs.Iter.{iter}
 use Rattle.timers.specs.Control.{settingOf, enable0, enable1, kept}
 use Rattle.timers.specs.Clock.{cycle, written}
 use Rattle.timers.specs.declared.Control.{Control}

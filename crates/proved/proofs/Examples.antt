@@ -13,7 +13,7 @@ use Rattle.alu.specs.Logical.{andOf, logicFlags}
 use Rattle.alu.specs.Rotate.{rlOf, sraOf, rotateFlags}
 use Rattle.alu.specs.Decimal.{daOf, byRows, adjustedBy, afterAddition, afterSubtraction}
 use Rattle.alu.specs.Conditions.{holdsOf}
-use Rattle.timers.specs.Iter.{iter}
+use Rattle.word.specs.Iter.{iter}
 use Rattle.timers.specs.Requests.{latch}
 use Rattle.timers.specs.Control.{orHighest, setupOf, dividerMovesT1, edgesMoveT1, settingOf, kept}
 use Rattle.timers.specs.Timer.{tick, ticked, timerWritten}

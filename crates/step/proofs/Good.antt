@@ -8,7 +8,7 @@ use lib.ListN.{set}
 use borrow.Author.Tests.{eqb-true}
 use Rattle.word.specs.Words.{plus}
 use Rattle.word.proofs.Computed.{by-test, and-left, and-right}
-use Rattle.timers.proofs.Iterate.{iter-zero}
+use Rattle.word.proofs.Iterate.{iter-zero}
 use Rattle.opcodes.specs.Map.{entryOf}
 use Rattle.opcodes.specs.declared.Entry.{Entry}
 use Rattle.opcodes.specs.declared.Entry.the-variants as entry

@@ -8,8 +8,8 @@ use native.Mathlib.Omega.{arith}
 use lib.Dec.{T, eqb, ltb}
 use borrow.Author.Tests.{eqb-true, eqb-false, ltb-true, lt-ltb}
 use Rattle.word.proofs.Computed.{by-test}
-use Rattle.timers.specs.Iter.{iter}
-use Rattle.timers.proofs.Iterate.{iter-zero, iter-suc}
+use Rattle.word.specs.Iter.{iter}
+use Rattle.word.proofs.Iterate.{iter-zero, iter-suc}
 use Rattle.timers.proofs.Cycles.{both-true}
 use Rattle.machine.specs.Legal.{Legal}
 use Rattle.machine.specs.declared.Machine.{Machine}

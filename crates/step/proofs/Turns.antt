@@ -7,8 +7,8 @@ use native.Mathlib.Nat.{zero-add, add-zero}
 use native.Mathlib.Omega.{arith}
 use lib.Dec.{eqb, ltb}
 use borrow.Author.Tests.{lt-ltb, le-ltb}
-use Rattle.timers.specs.Iter.{iter}
-use Rattle.timers.proofs.Iterate.{iter-zero, iter-one, iter-suc, iter-split, iter-fixed}
+use Rattle.word.specs.Iter.{iter}
+use Rattle.word.proofs.Iterate.{iter-zero, iter-one, iter-suc, iter-split, iter-fixed}
 use Rattle.machine.specs.Clock.{spanOf}
 use Rattle.machine.specs.Legal.{Legal}
 use Rattle.machine.specs.declared.Machine.{Machine}

@@ -6,10 +6,10 @@ use native.Mathlib.Decide.{decLt}
 use native.Mathlib.Omega.{arith}
 use lib.Dec.{T, eqb}
 use borrow.Author.Tests.{ne-eqb}
-use Rattle.timers.specs.Iter.{iter}
+use Rattle.word.specs.Iter.{iter}
 use Rattle.word.specs.Choose.{pick}
 use Rattle.timers.specs.Timer.{moves}
-use Rattle.timers.specs.Clock.{tickBoth, cycle, cycles, begun, atDivider, endOf, LegalSetting, LegalMoving}
+use Rattle.timers.specs.Clock.{tickBoth, cycle, cycles, begun, atDivider, endOf, end0Of, LegalSetting, LegalMoving}
 use Rattle.timers.specs.declared.ticks.ShortCount.{ShortCount}
 use Rattle.timers.specs.declared.clock.ShortMove.{ShortMove}
 use Rattle.timers.specs.declared.Source.{Source}
@@ -17,7 +17,7 @@ use Rattle.timers.specs.declared.Source.the-variants.{Divider}
 use Rattle.timers.specs.declared.Setting.{Setting}
 use Rattle.timers.specs.declared.Moving.{Moving}
 use Rattle.timers.specs.declared.Spanned.{Spanned}
-use Rattle.timers.proofs.Iterate.{iter-zero, iter-suc, iter-both}
+use Rattle.word.proofs.Iterate.{iter-zero, iter-suc, iter-both}
 use Rattle.timers.proofs.Division.{ticks-zero, ticks-suc, ticks-few}
 use Rattle.timers.proofs.Ends.{ends-swap}
 use Rattle.timers.specs.ForCode.{more, ticks, fewOf, asBefore, fewCycles}
@@ -42,19 +42,19 @@ module _ (s : Setting) where
               divider = m .divider;
               t0 = a0 .counting;
               t1 = a1 .counting;
-              lines = iter (a1 .ends) (endOf (s .t1)) (iter (a0 .ends) (endOf (s .t0)) (m .lines));
+              lines = iter (a1 .ends) (endOf (s .t1)) (iter (a0 .ends) (end0Of (s .port) (s .t0)) (m .lines));
             };
         ends0 = a0 .ends;
         ends1 = a1 .ends;
       }
 
   apart-zero : (by : Source) (m : Moving) → begun m ≡ apart by m 0
-  apart-zero by m = rw (ticks-zero by (s .t0) (m .t0), ticks-zero by (s .t1) (m .t1), iter-zero (endOf (s .t1)), iter-zero (endOf (s .t0)))
+  apart-zero by m = rw (ticks-zero by (s .t0) (m .t0), ticks-zero by (s .t1) (m .t1), iter-zero (endOf (s .t1)), iter-zero (end0Of (s .port) (s .t0)))
 
   apart-suc : (by : Source) (m : Moving) (k : ℕ) → tickBoth by s (apart by m k) ≡ apart by m (suc k)
   unfolding tickBoth more
   apart-suc by m k =
-      rw (ticks-suc by (s .t0) k (m .t0), ticks-suc by (s .t1) k (m .t1), iter-both (endOf (s .t0)) (endOf (s .t1)) (ends-swap (s .t0) (s .t1)))
+      rw (ticks-suc by (s .t0) k (m .t0), ticks-suc by (s .t1) k (m .t1), iter-both (end0Of (s .port) (s .t0)) (endOf (s .t1)) (ends-swap (s .port) (s .t0) (s .t1)))
 
   pub ticks-apart : (by : Source) (m : Moving) (k : ℕ) → iter k (tickBoth by s) (begun m) ≡ apart by m k
   ticks-apart by m zero = iter-zero (tickBoth by s) (begun m) ∙ apart-zero by m
@@ -139,7 +139,7 @@ module _ (s : Setting) where
             cycles-apart m (lm .divider-high) n k ((m .divider + n) % 4) refl refl,
             ticks-few Divider (s .t0) (m .t0) k (ls .setup0) (lm .counting0) (each .0),
             ticks-few Divider (s .t1) (m .t1) k (ls .setup1) (lm .counting1) (each .1),
-            iter-zero (endOf (s .t0)),
+            iter-zero (end0Of (s .port) (s .t0)),
             iter-zero (endOf (s .t1)),
           )
       go false e t = absurd (subst T (sym t) tt)

@@ -7,13 +7,13 @@ use native.Mathlib.Omega.{arith}
 use lib.Dec.{T, ltb}
 use borrow.Author.Tests.{lt-ltb, ltb-true, ltb-false}
 use Rattle.word.specs.Choose.{pick}
-use Rattle.timers.specs.Iter.{iter}
+use Rattle.word.specs.Iter.{iter}
 use Rattle.timers.specs.Timer.{countAt, stopped, noEnd, tick, moves, ticked, LegalSetup, LegalCounting}
 use Rattle.timers.specs.declared.Source.{Source}
 use Rattle.timers.specs.declared.Setup.{Setup}
 use Rattle.timers.specs.declared.Counting.{Counting}
 use Rattle.timers.specs.declared.Ticked.{Ticked}
-use Rattle.timers.proofs.Iterate.{iter-zero, iter-suc, iter-split, iter-fixed}
+use Rattle.word.proofs.Iterate.{iter-zero, iter-suc, iter-split, iter-fixed}
 use Rattle.timers.specs.ForCode.{more, ticks, isShort, shortly, fewTo, turnedOf, fewOf}
 use Rattle.timers.specs.declared.Timer.{Timer}
 

@@ -1,18 +1,21 @@
 -- What some ends of a timer do, by their number.
 use mathlib.Core.Path.{_≡_, refl, ap, _∙_}
-use mathlib.Core.Bool.{Bool, true, false, not}
+use mathlib.Core.Bool.{Bool, true, false, not, _||_}
 use Prim.Native.Nat.{ℕ, zero, suc, _%_, _<_}
 use native.Mathlib.Decide.{decLt}
 use native.Mathlib.Omega.{arith}
 use lib.Dec.{eqb}
 use Rattle.word.specs.Choose.{pick}
-use Rattle.timers.specs.Iter.{iter}
-use Rattle.timers.specs.Requests.{latch}
-use Rattle.timers.specs.Clock.{endOf, flips}
+use Rattle.word.specs.Iter.{iter}
+use Rattle.serial.specs.Port.{portEnd, quiet, morePort, portEnds}
+use Rattle.serial.specs.declared.Mode.{Mode}
+use Rattle.serial.specs.declared.Ended.{Ended}
+use Rattle.timers.specs.Requests.{latch, latchedIf}
+use Rattle.timers.specs.Clock.{endOf, flips, askedFor, bitClock, end0Of}
 use Rattle.timers.specs.declared.Setup.{Setup}
 use Rattle.timers.specs.declared.Lines.{Lines}
-use Rattle.timers.proofs.Iterate.{iter-zero, iter-suc, iter-fixed}
-use Rattle.timers.proofs.Latched.{latch-swap}
+use Rattle.word.proofs.Iterate.{iter-zero, iter-suc, iter-fixed}
+use Rattle.timers.proofs.Latched.{latch-swap, if-or, if-past, if-swap}
 
 -- T_OUT by the parity of the ends, where the timer drives it
 abbrev turned : Bool → Bool → Bool
@@ -48,12 +51,57 @@ flips-swap false false tout = refl
 
 -- part by part
 pub ends-apart : (s : Setup) (e : ℕ) (l : Lines)
-    → iter e (endOf s) l ≡ record { irq = iter e (latch (s .request)) (l .irq); tout = iter e (flips (s .drives)) (l .tout) }
+    → iter e (endOf s) l ≡ record { irq = iter e (latch (s .request)) (l .irq); tout = iter e (flips (s .drives)) (l .tout); port = l .port }
 unfolding endOf iter
 ends-apart s zero l = refl
 ends-apart s (suc e) l = ap (endOf s) (ends-apart s e l)
 
--- what the ends of two timers do may be done in either order
-pub ends-swap : (a b : Setup) (l : Lines) → endOf a (endOf b l) ≡ endOf b (endOf a l)
-unfolding endOf
-ends-swap a b l = rw (latch-swap (a .request) (b .request) (l .irq), flips-swap (a .drives) (b .drives) (l .tout))
+-- the port's requests, and then its requests again
+asked-again : (a b c d : Bool) (irq : ℕ) → askedFor c d (askedFor a b irq) ≡ askedFor (a || c) (b || d) irq
+unfolding askedFor
+asked-again a b c d irq =
+    ap (latchedIf c 3) (if-swap 4 3 d a (latchedIf b 4 irq)) ∙ if-or 3 a c (latchedIf d 4 (latchedIf b 4 irq)) ∙ ap (latchedIf (a || c) 3) (if-or 4 b d irq)
+
+asked-past : (n : ℕ) (a b : Bool) (irq : ℕ) → askedFor a b (latch n irq) ≡ latch n (askedFor a b irq)
+unfolding askedFor
+asked-past n a b irq = ap (latchedIf a 3) (if-past 4 n b irq) ∙ if-past 3 n a (latchedIf b 4 irq)
+
+-- an end of T0 while the serial port is on, and while it is off
+end-on : (m : Mode) (s : Setup) (l : Lines) → m .on ≡ true → end0Of m s l ≡ bitClock m s l
+unfolding end0Of
+end-on m s l e = ap (λ (b : Bool). pick b (bitClock m s l) (endOf s l)) e
+
+end-off : (m : Mode) (s : Setup) (l : Lines) → m .on ≡ false → end0Of m s l ≡ endOf s l
+unfolding end0Of
+end-off m s l e = ap (λ (b : Bool). pick b (bitClock m s l) (endOf s l)) e
+
+-- and some of them: on, they are as many ends of the port; off, as many of any timer
+pub ends-on : (m : Mode) (s : Setup) (e : ℕ) (l : Lines) → m .on ≡ true
+    → iter e (end0Of m s) l
+    ≡ record {
+      irq = askedFor (portEnds m e (l .port) .asked3) (portEnds m e (l .port) .asked4) (l .irq);
+      tout = iter e (flips (s .drives)) (l .tout);
+      port = portEnds m e (l .port) .port;
+    }
+unfolding iter portEnds morePort bitClock askedFor latchedIf
+ends-on m s zero l on = refl
+ends-on m s (suc e) l on =
+    let x = iter e (morePort m) (quiet (l .port)) in
+    let y = portEnd m (x .port) in
+    ap (end0Of m s) (ends-on m s e l on) ∙ end-on m s _ on ∙ rw (asked-again (x .asked3) (x .asked4) (y .asked3) (y .asked4) (l .irq))
+
+pub ends-off : (m : Mode) (s : Setup) (e : ℕ) (l : Lines) → m .on ≡ false → iter e (end0Of m s) l ≡ iter e (endOf s) l
+unfolding iter
+ends-off m s zero l off = refl
+ends-off m s (suc e) l off = end-off m s _ off ∙ ap (endOf s) (ends-off m s e l off)
+
+-- what an end of T0 and an end of another timer do may be done in either order
+pub ends-swap : (m : Mode) (a b : Setup) (l : Lines) → end0Of m a (endOf b l) ≡ endOf b (end0Of m a l)
+unfolding endOf end0Of bitClock
+ends-swap m a b l = go (m .on)
+  where
+    go : (on : Bool) → pick on (bitClock m a (endOf b l)) (endOf a (endOf b l)) ≡ endOf b (pick on (bitClock m a l) (endOf a l))
+    go true =
+        let x = portEnd m (l .port) in
+        rw (asked-past (b .request) (x .asked3) (x .asked4) (l .irq), flips-swap (a .drives) (b .drives) (l .tout))
+    go false = rw (latch-swap (a .request) (b .request) (l .irq), flips-swap (a .drives) (b .drives) (l .tout))

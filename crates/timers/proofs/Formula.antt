@@ -4,7 +4,7 @@ use mathlib.Core.Bool.{true}
 use Prim.Native.Nat.{ℕ, _+_, _-_, _*_, _/_, _≤_, _<_}
 use native.Mathlib.Nat.{add-mul-div-left, add-mul-mod-self-left, div-eq-of-lt, mod-eq-of-lt, mul-le-mul-left, div-div-eq-div-mul}
 use native.Mathlib.Omega.{arith}
-use Rattle.timers.specs.Iter.{iter}
+use Rattle.word.specs.Iter.{iter}
 use Rattle.timers.specs.Control.{settingOf, ControlBytes}
 use Rattle.timers.specs.Timer.{moves, noEnd, LegalSetup, LegalCounting}
 use Rattle.timers.specs.Clock.{cycles, Which, T0, T1, setupFor, countingFor, endsFor, gone, Steady, LegalSetting, LegalMoving}
@@ -15,7 +15,7 @@ use Rattle.timers.specs.declared.Counting.{Counting}
 use Rattle.timers.specs.declared.Ticked.{Ticked}
 use Rattle.timers.specs.declared.Setting.{Setting}
 use Rattle.timers.specs.declared.Moving.{Moving}
-use Rattle.timers.proofs.Iterate.{iter-add}
+use Rattle.word.proofs.Iterate.{iter-add}
 use Rattle.timers.proofs.Division.{at, part, fresh}
 use Rattle.timers.proofs.Cycles.{cycles-apart}
 use Rattle.timers.proofs.Legal.{setting-legal}

@@ -1,14 +1,15 @@
 -- Laws of a latched request: often is as good as once, and the order doesn't matter.
 use mathlib.Core.Path.{_≡_, refl, ap, ap₂, sym, _∙_}
+use mathlib.Core.Bool.{Bool, true, false, _||_}
 use Prim.Native.Nat.{ℕ, zero, suc, _+_, _*_, _/_, _%_, _^_, _<_, max}
 use native.Mathlib.Omega.{arith}
 use lib.Arith.{bin-ind}
 use lib.Dec.{ltb, ltb→lt}
 use lib.Bits.{bitOr, or-comm, or-self, or-step, or-shr, or-mod, or-lt}
 use Rattle.word.proofs.Computed.{at, agree3}
-use Rattle.timers.specs.Iter.{iter}
-use Rattle.timers.specs.Requests.{latch}
-use Rattle.timers.proofs.Iterate.{iter-suc, iter-fixed, iter-past}
+use Rattle.word.specs.Iter.{iter}
+use Rattle.timers.specs.Requests.{latch, latchedIf}
+use Rattle.word.proofs.Iterate.{iter-suc, iter-fixed, iter-past}
 
 or-assoc : (a b c : ℕ) → bitOr (bitOr a b) c ≡ bitOr a (bitOr b c)
 or-assoc a =
@@ -44,3 +45,26 @@ latch-often n (suc e) irq h =
 pub latch-legal : (n irq : ℕ) → n < 6 → irq < 64 → latch n irq < 64
 unfolding latch
 latch-legal n irq h l = or-lt 6 irq (2 ^ n) l (ltb→lt (2 ^ n) 64 (at (λ x. ltb (2 ^ x) 64) 6 tt n h))
+
+-- requests asked for, or not: asked for twice is once, and the order doesn't matter
+pub if-or : (n : ℕ) (a b : Bool) (irq : ℕ) → latchedIf b n (latchedIf a n irq) ≡ latchedIf (a || b) n irq
+unfolding latchedIf
+if-or n true true irq = latch-again n irq
+if-or n true false irq = refl
+if-or n false true irq = refl
+if-or n false false irq = refl
+
+pub if-past : (m n : ℕ) (a : Bool) (irq : ℕ) → latchedIf a m (latch n irq) ≡ latch n (latchedIf a m irq)
+unfolding latchedIf
+if-past m n true irq = latch-swap m n irq
+if-past m n false irq = refl
+
+pub if-swap : (m n : ℕ) (a b : Bool) (irq : ℕ) → latchedIf a m (latchedIf b n irq) ≡ latchedIf b n (latchedIf a m irq)
+unfolding latchedIf
+if-swap m n a true irq = if-past m n a irq
+if-swap m n a false irq = refl
+
+pub if-legal : (asked : Bool) (n irq : ℕ) → n < 6 → irq < 64 → latchedIf asked n irq < 64
+unfolding latchedIf
+if-legal true n irq h l = latch-legal n irq h l
+if-legal false n irq h l = l

@@ -12,7 +12,7 @@ use Rattle.word.specs.Fields.{bitOf}
 use Rattle.word.proofs.Computed.{by-test, agree}
 use Rattle.timers.specs.Control.{orHighest, setupOf, settingOf, kept, ControlBytes}
 use Rattle.timers.specs.Timer.{tick, moves, ticked, timerWritten, LegalSetup, LegalCounting}
-use Rattle.timers.specs.Clock.{tickBoth, cycle, cycles, begun, atDivider, endOf, edgeOf, written, LegalSetting, LegalMoving}
+use Rattle.timers.specs.Clock.{tickBoth, cycle, cycles, begun, atDivider, endOf, askedFor, bitClock, end0Of, edgeOf, written, LegalSetting, LegalMoving}
 use Rattle.timers.specs.declared.Control.{Control}
 use Rattle.timers.specs.declared.Source.{Source}
 use Rattle.timers.specs.declared.Source.the-variants.{Divider, Edges}
@@ -23,8 +23,11 @@ use Rattle.timers.specs.declared.Lines.{Lines}
 use Rattle.timers.specs.declared.Setting.{Setting}
 use Rattle.timers.specs.declared.Moving.{Moving}
 use Rattle.timers.specs.declared.Spanned.{Spanned}
-use Rattle.timers.proofs.Iterate.{iter-keeps}
-use Rattle.timers.proofs.Latched.{latch-legal}
+use Rattle.word.proofs.Iterate.{iter-keeps}
+use Rattle.serial.specs.Port.{portEnd, LegalPort}
+use Rattle.serial.specs.declared.Mode.{Mode}
+use Rattle.serial.proofs.Theorems as port
+use Rattle.timers.proofs.Latched.{latch-legal, if-legal}
 
 -- a count whose field 0 stands for the highest is 1 to the highest
 pub highest-low : (top field : ℕ) → 0 < top → 0 < orHighest top field
@@ -55,6 +58,10 @@ setting-legal c b =
       setup1 = setup-legal (c .pre1) (c .t1) 5 _ _ _ (b .pre1-byte) (b .t1-byte) (omega arith);
     }
 
+-- what ends touch
+abbrev LegalLines : Lines → Type 0
+LegalLines l = (l .irq < 64) × LegalPort (l .port)
+
 module _ (s : Setup) (ls : LegalSetup s) where
   tick-legal : (c : Counting) → LegalCounting c → LegalCounting (tick s c .counting)
   unfolding tick
@@ -70,21 +77,30 @@ module _ (s : Setup) (ls : LegalSetup s) where
   unfolding ticked
   ticked-legal by c lc = by-test (λ (a : Ticked). LegalCounting (a .counting)) (moves by s c) (λ e. tick-legal c lc) (λ e. lc)
 
-  end-legal : (l : Lines) → l .irq < 64 → endOf s l .irq < 64
+  end-legal : (l : Lines) → LegalLines l → LegalLines (endOf s l)
   unfolding endOf
-  end-legal l h = latch-legal (s .request) (l .irq) (ls .request-high) h
+  end-legal l h = (latch-legal (s .request) (l .irq) (ls .request-high) (h .0), h .1)
+
+  end0-legal : (m : Mode) (l : Lines) → LegalLines l → LegalLines (end0Of m s l)
+  unfolding end0Of bitClock askedFor
+  end0-legal m l h =
+      let x = portEnd m (l .port) in
+      let irq = if-legal (x .asked3) 3 _ (omega arith) (if-legal (x .asked4) 4 (l .irq) (omega arith) (h .0)) in
+      by-test LegalLines (m .on) (λ e. (irq, port.end-legal m (l .port) (h .1))) (λ e. end-legal l h)
 
 module _ (s : Setting) (ls : LegalSetting s) where
   both-legal : (by : Source) (x : Spanned) → LegalMoving (x .moving) → LegalMoving (tickBoth by s x .moving)
   unfolding tickBoth
   both-legal by x l =
+      let lines : LegalLines (tickBoth by s x .moving .lines) =
+      iter-keeps (endOf (s .t1)) LegalLines (end-legal (s .t1) (ls .setup1)) (ticked by (s .t1) (x .moving .t1) .ends) _
+      (iter-keeps (end0Of (s .port) (s .t0)) LegalLines (end0-legal (s .t0) (ls .setup0) (s .port)) (ticked by (s .t0) (x .moving .t0) .ends) (x .moving .lines) (l .irq-high, l .port-legal)) in
       record {
         divider-high = l .divider-high;
         counting0 = ticked-legal (s .t0) (ls .setup0) by (x .moving .t0) (l .counting0);
         counting1 = ticked-legal (s .t1) (ls .setup1) by (x .moving .t1) (l .counting1);
-        irq-high =
-            iter-keeps (endOf (s .t1)) (λ (y : Lines). y .irq < 64) (end-legal (s .t1) (ls .setup1)) (ticked by (s .t1) (x .moving .t1) .ends) _
-            (iter-keeps (endOf (s .t0)) (λ (y : Lines). y .irq < 64) (end-legal (s .t0) (ls .setup0)) (ticked by (s .t0) (x .moving .t0) .ends) (x .moving .lines) (l .irq-high));
+        irq-high = lines .0;
+        port-legal = lines .1;
       }
 
   cycle-legal : (x : Spanned) → LegalMoving (x .moving) → LegalMoving (cycle s x .moving)
@@ -92,7 +108,7 @@ module _ (s : Setting) (ls : LegalSetting s) where
   cycle-legal x l =
       let d = (x .moving .divider + 1) % 4 in
       let counted : LegalMoving (atDivider x d .moving) =
-      record { divider-high = omega arith; counting0 = l .counting0; counting1 = l .counting1; irq-high = l .irq-high } in
+      record { divider-high = omega arith; counting0 = l .counting0; counting1 = l .counting1; irq-high = l .irq-high; port-legal = l .port-legal } in
       by-test (λ (y : Spanned). LegalMoving (y .moving)) (eqb d 0) (λ e. both-legal Divider (atDivider x d) counted) (λ e. counted)
 
   pub cycles-legal : (n : ℕ) (m : Moving) → LegalMoving m → LegalMoving (cycles s n m .moving)
@@ -117,6 +133,7 @@ written-legal c m b l =
       counting0 = timer-written-legal (settingOf c .t0) _ _ (m .t0) (ls .setup0) (l .counting0);
       counting1 = timer-written-legal (settingOf c .t1) _ _ (m .t1) (ls .setup1) (l .counting1);
       irq-high = l .irq-high;
+      port-legal = l .port-legal;
     }
 
 -- TMR's bits 0 and 2 stay clear

@@ -1,4 +1,3 @@
-pub mod Iterate
 pub mod Latched
 pub mod Division
 pub mod Ends
@@ -6,4 +5,5 @@ pub mod Cycles
 pub mod Formula
 pub mod Legal
 pub mod Row
+pub mod BitClock
 pub mod Theorems

@@ -4,13 +4,13 @@ use mathlib.Core.Bool.{Bool, true, false}
 use Prim.Native.Nat.{ℕ, _+_, _%_}
 use native.Mathlib.Nat.{zero-add, add-comm, add-right-comm}
 use lib.Dec.{eqb}
-use Rattle.timers.specs.Iter.{iter}
+use Rattle.word.specs.Iter.{iter}
 use Rattle.timers.specs.Clock.{tickBoth, cycle, cycles, begun, atDivider}
 use Rattle.timers.specs.declared.Source.the-variants.{Divider}
 use Rattle.timers.specs.declared.Setting.{Setting}
 use Rattle.timers.specs.declared.Moving.{Moving}
 use Rattle.timers.specs.declared.Spanned.{Spanned}
-use Rattle.timers.proofs.Iterate.{iter-split, iter-past}
+use Rattle.word.proofs.Iterate.{iter-split, iter-past}
 use Rattle.timers.specs.ForCode.{added}
 
 module _ (s : Setting) (e0 e1 : ℕ) where

@@ -5,7 +5,7 @@ use Prim.Native.Nat.{ℕ, zero, suc, _+_, _%_, _≤_}
 use native.Mathlib.Omega.{arith}
 use lib.Dec.{eqb, ltb}
 use Rattle.word.proofs.Computed.{by-test}
-use Rattle.timers.specs.Iter.{iter}
+use Rattle.word.specs.Iter.{iter}
 use Rattle.timers.specs.Control.{setupOf, settingOf}
 use Rattle.timers.specs.Timer.{tick, moves, ticked}
 use Rattle.timers.specs.Clock.{tickBoth, cycle, cycles, begun, atDivider, edgeOf}

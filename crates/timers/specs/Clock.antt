@@ -1,11 +1,13 @@
--- The divider and both timers, one cycle at a time (01 "The timers", "One step").
+-- The divider and both timers, one cycle at a time (01 "The timers", "One step"), and the serial port, which T0's ends clock (004, 12.2).
 use mathlib.Core.Path.{_≡_}
 use mathlib.Core.Bool.{Bool, true, not, _&&_, _||_}
 use Prim.Native.Nat.{ℕ, _+_, _-_, _*_, _%_, _≤_, _<_}
 use lib.Dec.{eqb}
 use Rattle.word.specs.Choose.{pick}
-use Rattle.timers.specs.Iter.{iter}
-use Rattle.timers.specs.Requests.{latch}
+use Rattle.word.specs.Iter.{iter}
+use Rattle.serial.specs.Port.{portEnd, LegalPort}
+use Rattle.serial.specs.declared.Mode.{Mode}
+use Rattle.timers.specs.Requests.{latch, latchedIf}
 use Rattle.timers.specs.Control.{load0, enable0, load1, enable1, settingOf}
 use Rattle.timers.specs.Timer.{ticked, timerWritten, LegalSetup, LegalCounting}
 use Rattle.timers.specs.declared.Control.{Control}
@@ -24,7 +26,23 @@ flips drives tout = pick drives (not tout) tout
 
 -- what an end of a timer does: it latches the timer's request, and flips T_OUT where the timer is chosen
 unfoldable pub endOf : Setup → Lines → Lines
-endOf s l = record { irq = latch (s .request) (l .irq); tout = flips (s .drives) (l .tout) }
+endOf s l = record { irq = latch (s .request) (l .irq); tout = flips (s .drives) (l .tout); port = l .port }
+
+-- "Requests 3 and 4 come from the port while it is on" (02, C-11): IRQ with those that the port asks for
+unfoldable pub askedFor : Bool → Bool → ℕ → ℕ
+askedFor asked3 asked4 irq = latchedIf asked3 3 (latchedIf asked4 4 irq)
+
+-- an end of T0 while the serial port is on: "T_0's end-of-count signal no longer generates interrupt request IRQ_4; instead, the signal is
+-- used as the input to the divide-by-16 counters (one each for the receiver and the transmitter) which clock the data stream" (004, 12.2).
+-- It flips T_OUT as ever.
+unfoldable pub bitClock : Mode → Setup → Lines → Lines
+bitClock m s l =
+    let x = portEnd m (l .port) in
+    record { irq = askedFor (x .asked3) (x .asked4) (l .irq); tout = flips (s .drives) (l .tout); port = x .port }
+
+-- an end of T0
+unfoldable pub end0Of : Mode → Setup → Lines → Lines
+end0Of m s l = pick (m .on) (bitClock m s l) (endOf s l)
 
 -- one tick from this source for both timers; each that ends, once, does what its end does
 unfoldable pub tickBoth : Source → Setting → Spanned → Spanned
@@ -37,7 +55,7 @@ tickBoth by s x =
             divider = x .moving .divider;
             t0 = a0 .counting;
             t1 = a1 .counting;
-            lines = iter (a1 .ends) (endOf (s .t1)) (iter (a0 .ends) (endOf (s .t0)) (x .moving .lines));
+            lines = iter (a1 .ends) (endOf (s .t1)) (iter (a0 .ends) (end0Of (s .port) (s .t0)) (x .moving .lines));
           };
       ends0 = x .ends0 + a0 .ends;
       ends1 = x .ends1 + a1 .ends;
@@ -79,7 +97,12 @@ written c m =
       divider = m .divider;
       t0 = timerWritten (s .t0) (load0 v) (enable0 v) (m .t0);
       t1 = timerWritten (s .t1) (load1 v) (enable1 v) (m .t1);
-      lines = record { irq = m .lines .irq; tout = toutWritten (s .t1) (load1 v) (toutWritten (s .t0) (load0 v) (m .lines .tout)) };
+      lines =
+          record {
+            irq = m .lines .irq;
+            tout = toutWritten (s .t1) (load1 v) (toutWritten (s .t0) (load0 v) (m .lines .tout));
+            port = m .lines .port;
+          };
     }
 
 -- for the laws: what the registers can say of both timers
@@ -87,13 +110,14 @@ pub record LegalSetting (s : Setting) : Type 0 where
   pub setup0 : LegalSetup (s .t0)
   pub setup1 : LegalSetup (s .t1)
 
--- 01's legal machine, as far as cycles move it: "divider 0 to 3", the counts in range, "bits [..] 6 and 7 of IRQ" zero. (T_OUT is 0 or
--- 1 by its type.)
+-- 01's legal machine, as far as cycles move it: "divider 0 to 3", the counts in range, "bits [..] 6 and 7 of IRQ" zero, and the
+-- serial port's bytes. (T_OUT is 0 or 1 by its type.)
 pub record LegalMoving (m : Moving) : Type 0 where
   pub divider-high : m .divider < 4
   pub counting0 : LegalCounting (m .t0)
   pub counting1 : LegalCounting (m .t1)
   pub irq-high : m .lines .irq < 64
+  pub port-legal : LegalPort (m .lines .port)
 
 -- The closed formula, of either timer.
 pub data Which : Type 0 where

@@ -1,10 +1,12 @@
--- What the control registers F1 to F5 and P31 tell the timers (01 "The timers"; 002, R241 to R245).
+-- What the control registers F1 to F5 and P31 tell the timers (01 "The timers"; 002, R241 to R245), and P3M and P30 the serial port (002,
+-- R247).
 use mathlib.Core.Bool.{Bool, true, false, not, _&&_, _||_}
 use Prim.Native.Nat.{ℕ, _/_, _%_, _<_}
 use lib.Dec.{eqb}
 use lib.Bits.{bitAnd}
 use Rattle.word.specs.Choose.{pick}
 use Rattle.word.specs.Fields.{isSet}
+use Rattle.serial.specs.declared.Mode.{Mode}
 use Rattle.timers.specs.declared.Control.{Control}
 use Rattle.timers.specs.declared.Setup.{Setup}
 use Rattle.timers.specs.declared.Setting.{Setting}
@@ -61,6 +63,10 @@ dividerMovesT1 internal mode high = internal || (eqb mode 1 && high)
 unfoldable pub edgesMoveT1 : Bool → ℕ → Bool
 edgesMoveT1 internal mode = not internal && eqb mode 0
 
+-- P3M bit 6: the serial port is "active"; bit 7: parity (02, C-11; 002). And P30, bit 0 of Port 3, which the receiver looks at.
+unfoldable pub modeOf : ℕ → ℕ → Mode
+modeOf p3m port3 = record { on = isSet 6 p3m; parity = isSet 7 p3m; high = isSet 0 port3 }
+
 -- "T0's end latches request 4, T1's request 5. The end of the timer chosen by TMR bits 7 and 6 (01 T0, 10 T1, else none) flips T_OUT."
 -- T0 "is driven by the internal clock only" (002). "P31 is as in the last pins." Of F2 to F5 a timer sees no more than this, and sees it at a
 -- tick or a load: "Writing F2 to F5 alone moves no count."
@@ -77,6 +83,7 @@ settingOf c =
           (edgesMoveT1 (internal (c .pre1)) mode)
           5
           (eqb (toutMode (c .tmr)) 2);
+      port = modeOf (c .p3m) (c .port3);
     }
 
 -- what a byte written to TMR leaves there: load bits 0 and 2 read back 0

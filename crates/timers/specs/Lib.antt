@@ -1,4 +1,3 @@
-pub mod Iter
 pub mod Requests
 pub mod Control
 pub mod Timer

@@ -7,13 +7,15 @@ use crate::Setup;
 use crate::Source;
 use crate::Spanned;
 use crate::Timer;
+use serial::Mode;
 ghost use mathlib.Core.Path.{_≡_};
 ghost use Prim.Native.Nat.{_+_, _%_, _<_};
-ghost use Rattle.timers.specs.Iter.{iter};
+ghost use Rattle.word.specs.Iter.{iter};
+ghost use Rattle.serial.specs.Port.{LegalPort};
 ghost use Rattle.timers.specs.Requests.{latch};
 ghost use Rattle.timers.specs.Control.{settingOf};
 ghost use Rattle.timers.specs.Timer.{LegalSetup};
-ghost use Rattle.timers.specs.Clock.{flips, endOf, tickBoth, begun, cycles, edgeOf, toutWritten, written, LegalSetting, LegalMoving};
+ghost use Rattle.timers.specs.Clock.{flips, endOf, end0Of, tickBoth, begun, cycles, edgeOf, toutWritten, written, LegalSetting, LegalMoving};
 ghost use Rattle.timers.specs.ForCode.{roundOf, asBefore, fewCycles};
 
 // IRQ after e ends that latch request n.
@@ -43,9 +45,29 @@ fn ended(s: Setup, l: Lines, e: u32) -> Lines
     requires { ⌜ LegalSetup s ⌝ }
     ensures { λ r. ⌜ r ≡ iter e (endOf s) l ⌝ }
 {
+    let port = l.port;
     let irq = raised(s.request, l.irq, e);
     let tout = level(s.drives, l.tout, e);
-    Lines { irq, tout }
+    Lines { irq, tout, port }
+}
+
+// What e ends of T0 do: while the serial port is on they are its ends.
+fn ended0(m: Mode, s: Setup, l: Lines, e: u32) -> Lines
+    requires { ⌜ LegalSetup s ⌝ }
+    requires { ⌜ LegalPort (l .port) ⌝ }
+    ensures { λ r. ⌜ r ≡ iter e (end0Of m s) l ⌝ }
+{
+    let on = m.on;
+    if !on {
+        return ended(s, l, e);
+    }
+    let before = l.port;
+    let x = serial::ends(m, before, e);
+    let sent = crate::requests::latched_if(x.asked4, 4, l.irq);
+    let irq = crate::requests::latched_if(x.asked3, 3, sent);
+    let tout = level(s.drives, l.tout, e);
+    let port = x.port;
+    Lines { irq, tout, port }
 }
 
 // k ticks from this source, for both timers.
@@ -57,6 +79,7 @@ fn tick_both(by: Source, s: Setting, m: Moving, k: u32) -> Spanned
     let divider = m.divider;
     let s0 = s.t0;
     let s1 = s.t1;
+    let port = s.port;
     let c0 = m.t0;
     let c1 = m.t1;
     let lines = m.lines;
@@ -64,7 +87,7 @@ fn tick_both(by: Source, s: Setting, m: Moving, k: u32) -> Spanned
     let a1 = crate::ticks::advance(by, s1, c1, k);
     let ends0 = a0.ends;
     let ends1 = a1.ends;
-    let first = ended(s0, lines, ends0);
+    let first = ended0(port, s0, lines, ends0);
     let second = ended(s1, first, ends1);
     let t0 = a0.counting;
     let t1 = a1.counting;
@@ -210,6 +233,7 @@ pub fn write_tmr(c: Control, m: Moving) -> Moving
 {
     let v = c.tmr;
     let lines = m.lines;
+    let port = lines.port;
     let c0 = m.t0;
     let c1 = m.t1;
     let s = crate::registers::setting(c);
@@ -226,6 +250,7 @@ pub fn write_tmr(c: Control, m: Moving) -> Moving
     let after = Lines {
         irq: lines.irq,
         tout: second,
+        port,
     };
     Moving {
         divider: m.divider,

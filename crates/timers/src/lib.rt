@@ -1,18 +1,22 @@
-// The divider and the two timers (01 "The timers"; 004 chapter 11). The definition goes by single cycles; the code moves any
+// The divider and the two timers (01 "The timers"; 004 chapter 11), and what their ends touch, the serial port among it. The definition goes by single cycles; the code moves any
 // number of cycles by division. What the cycles read (`Control`, `Setting`) stands apart from what they move (`Moving`).
 pub mod clock;
 pub mod registers;
 pub mod requests;
 mod ticks;
 
-// All that the timers read: the control registers F1 to F5 in address order, and the last Port 3 pins. Of TMR the cycles read the
-// modes alone; its enable bits, which an end may clear, are with what moves, and are put back into TMR's place by who keeps it.
+use serial::Mode;
+use serial::Port;
+
+// All that the timers and the serial port read: the control registers F1 to F5 and P3M in address order, and the last Port 3 pins. Of
+// TMR the cycles read the modes alone; its enable bits, which an end may clear, are with what moves, and are put back into TMR's place by who keeps it.
 pub struct Control {
     pub tmr: u8,
     pub t1: u8,
     pub pre1: u8,
     pub t0: u8,
     pub pre0: u8,
+    pub p3m: u8,
     pub port3: u8,
 }
 
@@ -34,9 +38,11 @@ pub struct Setup {
     pub drives: bool,
 }
 
+// What both timers read, and the serial port.
 pub struct Setting {
     pub t0: Setup,
     pub t1: Setup,
+    pub port: Mode,
 }
 
 // A count in progress, which is a machine's timer record: the prescaler 1 to 64, the counter 1 to 256.
@@ -57,10 +63,11 @@ pub struct Ticked {
     pub ends: u32,
 }
 
-// What the ends touch: IRQ, and the T_OUT level.
+// What the ends touch: IRQ, the T_OUT level, and the serial port.
 pub struct Lines {
     pub irq: u8,
     pub tout: bool,
+    pub port: Port,
 }
 
 // All that cycles move.

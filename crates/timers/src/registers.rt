@@ -2,9 +2,10 @@
 use crate::Control;
 use crate::Setting;
 use crate::Setup;
+use serial::Mode;
 ghost use mathlib.Core.Path.{_≡_};
 ghost use mathlib.Core.Bool.{_&&_};
-ghost use Rattle.timers.specs.Control.{orHighest, setupOf, internal, tinMode, p31, dividerMovesT1, edgesMoveT1, settingOf, kept};
+ghost use Rattle.timers.specs.Control.{orHighest, setupOf, internal, tinMode, p31, dividerMovesT1, edgesMoveT1, modeOf, settingOf, kept};
 
 // A count whose field 0 stands for the highest: a prescaler field, a start byte, a saved counter.
 pub fn or_highest(top: u32, field: u8) -> u32
@@ -58,6 +59,16 @@ pub fn moves_t1(c: Control, enabled: bool) -> bool
     divider_moves_t1(internal, mode, p31)
 }
 
+// What the serial port reads of P3M and of Port 3.
+fn mode(p3m: u8, port3: u8) -> Mode
+    ensures { λ r. ⌜ r ≡ modeOf p3m port3 ⌝ }
+{
+    let on = word::is_set(6, p3m);
+    let parity = word::is_set(7, p3m);
+    let high = word::is_set(0, port3);
+    Mode { on, parity, high }
+}
+
 pub fn setting(c: Control) -> Setting
     ensures { λ r. ⌜ r ≡ settingOf c ⌝ }
 {
@@ -71,7 +82,8 @@ pub fn setting(c: Control) -> Setting
     let edges = edges_move_t1(internal, mode);
     let t0 = setup(c.pre0, c.t0, true, false, 4, tout == 1);
     let t1 = setup(pre1, c.t1, divider, edges, 5, tout == 2);
-    Setting { t0, t1 }
+    let port = mode(c.p3m, c.port3);
+    Setting { t0, t1, port }
 }
 
 // What a byte written to TMR leaves there: the load bits read back 0.

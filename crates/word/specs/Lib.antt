@@ -1,3 +1,4 @@
 pub mod Choose
 pub mod Fields
 pub mod Words
+pub mod Iter

@@ -7,7 +7,7 @@ use denote.Ref.{now}
 use native.Mathlib.Omega.{arith}
 use Prim.Native.Nat.{ℕ, _-_, _≤_, _<_}
 use lib.ListN.{length}
-use Rattle.timers.proofs.Iterate.{iter-zero}
+use Rattle.word.proofs.Iterate.{iter-zero}
 use Rattle.machine.specs.Legal.{Legal}
 use Rattle.machine.proofs.Legal.{LegalPins}
 use Rattle.machine.specs.declared.Machine.{Machine}

@@ -5,7 +5,7 @@ use Rattle.timers.specs.Clock.{edgeOf, tickBoth, begun}
 use Rattle.timers.specs.Control.{settingOf}
 use Rattle.timers.specs.declared.Source.the-variants.{Edges}
 use Rattle.timers.proofs.Legal.{setting-legal}
-use Rattle.timers.proofs.Iterate.{iter-one}
+use Rattle.word.proofs.Iterate.{iter-one}
 
 setting-requires : tie.Need-setting-requires
 setting-requires c κs = search needs

@@ -4,7 +4,7 @@ use Rattle.timers.proofs.clock.raised.Tie as tie
 use mathlib.Core.Path.{_≡_, sym, _∙_}
 use native.Mathlib.Omega.{arith}
 use Rattle.timers.specs.Requests.{latch}
-use Rattle.timers.proofs.Iterate.{iter-zero}
+use Rattle.word.proofs.Iterate.{iter-zero}
 use Rattle.timers.proofs.Latched.{latch-often}
 
 latch-requires : tie.Need-latch-requires

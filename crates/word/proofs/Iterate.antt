@@ -2,7 +2,7 @@
 use mathlib.Core.Path.{_≡_, refl, ap, sym, _∙_}
 use Prim.Native.Nat.{ℕ, zero, suc, _+_}
 use native.Mathlib.Nat.{zero-add, suc-add, add-comm}
-use Rattle.timers.specs.Iter.{iter}
+use Rattle.word.specs.Iter.{iter}
 
 module _ {A : Type 0} (f : A → A) where
   pub iter-zero : (x : A) → iter zero f x ≡ x

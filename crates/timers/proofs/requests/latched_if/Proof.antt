@@ -1,7 +1,7 @@
 use borrow.Author.Needs.{needs}
-use Rattle.interrupts.proofs.edges.latched_if.Statement.{statement}
-use Rattle.interrupts.proofs.edges.latched_if.Tie as tie
-use Rattle.interrupts.specs.Edges.{latchedIf}
+use Rattle.timers.proofs.requests.latched_if.Statement.{statement}
+use Rattle.timers.proofs.requests.latched_if.Tie as tie
+use Rattle.timers.specs.Requests.{latchedIf}
 
 latch-requires : tie.Need-latch-requires
 latch-requires c κs = search needs
