@@ -60,7 +60,7 @@ pub fn moves_t1(c: Control, enabled: bool) -> bool
 }
 
 // What the serial port reads of P3M and of Port 3.
-fn mode(p3m: u8, port3: u8) -> Mode
+fn port_mode(p3m: u8, port3: u8) -> Mode
     ensures { λ r. ⌜ r ≡ modeOf p3m port3 ⌝ }
 {
     let on = word::is_set(6, p3m);
@@ -82,7 +82,7 @@ pub fn setting(c: Control) -> Setting
     let edges = edges_move_t1(internal, mode);
     let t0 = setup(c.pre0, c.t0, true, false, 4, tout == 1);
     let t1 = setup(pre1, c.t1, divider, edges, 5, tout == 2);
-    let port = mode(c.p3m, c.port3);
+    let port = port_mode(c.p3m, c.port3);
     Setting { t0, t1, port }
 }
 

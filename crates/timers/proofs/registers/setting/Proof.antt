@@ -21,8 +21,8 @@ setup-requires c κs = search needs
 setup-requires-2 : tie.Need-setup-requires-2
 setup-requires-2 c κs = search needs
 
-mode-requires : tie.Need-mode-requires
-mode-requires c κs = search needs
+port-mode-requires : tie.Need-port-mode-requires
+port-mode-requires c κs = search needs
 
 returns : tie.Need-returns
 unfolding settingOf
@@ -33,7 +33,7 @@ returns c =
     let divider : tie.After-divider-moves-t1 = edges .before in
     let high : tie.After-is-set2 = divider .before in
     let inner : tie.After-is-set = high .before in
-    rw (c .mode .ensures, t1 .setup2 .ensures, t0 .setup .ensures, edges .edges-move-t1 .ensures, divider .divider-moves-t1 .ensures, high .is-set2 .ensures, inner .is-set .ensures)
+    rw (c .port-mode .ensures, t1 .setup2 .ensures, t0 .setup .ensures, edges .edges-move-t1 .ensures, divider .divider-moves-t1 .ensures, high .is-set2 .ensures, inner .is-set .ensures)
 
 pub setting-spec : {M : Type 1} → statement M
 setting-spec =
@@ -45,5 +45,5 @@ setting-spec =
     edges-move-t1-requires
     setup-requires
     setup-requires-2
-    mode-requires
+    port-mode-requires
     returns)

@@ -1,6 +1,6 @@
 use borrow.Author.Needs.{needs}
-use Rattle.timers.proofs.registers.mode.Statement.{statement}
-use Rattle.timers.proofs.registers.mode.Tie as tie
+use Rattle.timers.proofs.registers.port_mode.Statement.{statement}
+use Rattle.timers.proofs.registers.port_mode.Tie as tie
 use Rattle.timers.specs.Control.{modeOf}
 
 is-set-requires : tie.Need-is-set-requires
@@ -19,5 +19,5 @@ returns c =
     let on : tie.After-is-set = parity .before in
     rw (c .is-set3 .ensures, parity .is-set2 .ensures, on .is-set .ensures)
 
-pub mode-spec : {M : Type 1} → statement M
-mode-spec = tie.close (tie.spec is-set-requires is-set-requires-2 is-set-requires-3 returns)
+pub port-mode-spec : {M : Type 1} → statement M
+port-mode-spec = tie.close (tie.spec is-set-requires is-set-requires-2 is-set-requires-3 returns)
