@@ -17,14 +17,19 @@ use Rattle.timers.specs.Timer.{LegalCounting}
 use Rattle.timers.specs.Clock.{cycles, written, LegalSetting, LegalMoving}
 use Rattle.timers.specs.declared.Timer.{Timer}
 use Rattle.timers.specs.declared.Moving.{Moving}
+use Rattle.serial.specs.Port.{LegalPort}
+use Rattle.serial.specs.declared.Port.{Port}
+use Rattle.serial.specs.declared.Mode.{Mode}
+use Rattle.serial.proofs.Theorems.{idle-legal, waiting-legal, stored-legal}
 use Rattle.timers.proofs.Legal.{setting-legal, written-legal, cycles-legal}
-use Rattle.machine.specs.State.{heldIn, placedIn, held, placed, withPc, withLast3}
+use Rattle.machine.specs.State.{heldIn, placedIn, held, placed, withPc, withLast3, withPort}
 use Rattle.machine.specs.Ports.{masked, port0Directions, port1Directions, port2Directions, port3Directions, directionsOf, portStores, portReads, pinsOf, ofPort}
 use Rattle.machine.specs.Clock.{controlWith, controlOf, movingOf, enabling, countsAt, movedTo, writeTmr, spanOf, shown}
+use Rattle.machine.specs.Serial.{portMode, readSio, writeSio}
 use Rattle.machine.specs.Registers.{isHole, isWriteOnly, portDirections, readPort, writePort, readReg, writeReg}
 use Rattle.machine.specs.Addresses.{workingAt, registerAt, indexedAt, evenOf, readPair, writePair}
 use Rattle.machine.specs.Stack.{Stacked, spl, spOf, spSet, writtenFrom, pushedInternal, pushedExternal, pushed, stackByte, raised, isInternal}
-use Rattle.machine.specs.Start.{Place, placedAll, resetPlaces, resetOf, newOf, startedWith, defaultOf, madeOf, isKind, isCost}
+use Rattle.machine.specs.Start.{Place, placedAll, resetPlaces, resetOf, newOf, startedWith, restingPort, defaultOf, madeOf, isKind, isCost}
 use Rattle.machine.specs.Legal.{mayHold, LegalFile, Legal}
 use Rattle.machine.specs.Memory.{programByte, dataStart, dataByte, listOf}
 use Rattle.machine.specs.declared.Machine.{Machine}
@@ -75,6 +80,7 @@ placed-legal a v l h byte may =
             counting0 = recounted (l .moving .counting0);
             counting1 = recounted (l .moving .counting1);
             irq-high = irq-small _ (f .bytes 0xFA) (f .places 0xFA);
+            port-legal = l .moving .port-legal;
           };
       last3-byte = l .last3-byte;
       kind = l .kind;
@@ -93,6 +99,7 @@ counts-legal x l k =
             counting0 = recounted (k .counting0);
             counting1 = recounted (k .counting1);
             irq-high = l .moving .irq-high;
+            port-legal = k .port-legal;
           };
       last3-byte = l .last3-byte;
       kind = l .kind;
@@ -108,6 +115,19 @@ pub last3-legal : {m : Machine} (port3 : ℕ) → Legal m → port3 < 256 → Le
 unfolding withLast3 movingOf
 last3-legal port3 l h =
     record { file = l .file; pc-word = l .pc-word; moving = l .moving; last3-byte = h; kind = l .kind; cost = l .cost }
+
+pub with-port-legal : {m : Machine} (p : Port) → Legal m → LegalPort p → Legal (withPort m p)
+unfolding withPort movingOf
+with-port-legal p l h =
+    let x = l .moving in
+    record {
+      file = l .file;
+      pc-word = l .pc-word;
+      moving = record { divider-high = x .divider-high; counting0 = x .counting0; counting1 = x .counting1; irq-high = x .irq-high; port-legal = h };
+      last3-byte = l .last3-byte;
+      kind = l .kind;
+      cost = l .cost;
+    }
 
 -- ---- ports
 -- the pins given with a call are bytes
@@ -171,13 +191,21 @@ module _ {m : Machine} (l : Legal m) where
   port-lines : (a : ℕ) → ByteLines (portDirections m a)
   port-lines a = lines-bytes (held m 0xF8) (held m 0xF6) a (l .file .bytes 0xF8) (l .file .bytes 0xF6)
 
+  own-port : LegalPort (m .port)
+  unfolding movingOf
+  own-port = l .moving .port-legal
+
+  sio-byte : readSio m < 256
+  unfolding readSio
+  sio-byte = by-test (λ (v : ℕ). v < 256) (portMode m .on) (λ t. own-port .legal-receiver .received-byte) (λ t. lit< tt)
+
   pub read-byte : (p : Pins) (a : ℕ) → LegalPins p → readReg p m a < 256
   unfolding readReg readPort portReads
   read-byte p a lp =
       by-test B (ltb a 0x04)
       (λ t. masked-byte (portDirections m a .address) 0xFF _ (port-lines a .address-byte) (lit< tt)
       (masked-byte (portDirections m a .inputs) (pinsOf p a) (held m a) (port-lines a .inputs-byte) (pins-byte p a lp) (l .file .bytes a))) (λ t.
-      by-test B (isHole a) (λ u. lit< tt) (λ u.
+      by-test B (isHole a) (λ u. by-test B (eqb a 0xF0) (λ e. sio-byte) (λ e. lit< tt)) (λ u.
       by-test B (isWriteOnly a) (λ u. lit< tt) (λ u.
       by-test B (eqb a 0xF2) (λ u. omega arith) (λ u.
       by-test B (eqb a 0xF4) (λ u. omega arith) (λ u.
@@ -208,11 +236,17 @@ module _ {m : Machine} (l : Legal m) where
       (kept-byte v hv)
       (kept-may v hv)
 
+  sio-legal : (v : ℕ) → v < 256 → Legal (writeSio m v)
+  unfolding writeSio
+  sio-legal v hv =
+      let sends : LegalPort _ = record { legal-receiver = own-port .legal-receiver; legal-transmitter = stored-legal (portMode m .parity) v hv } in
+      by-test Legal (portMode m .on) (λ t. with-port-legal _ l sends) (λ t. l)
+
   pub write-legal : (a v : ℕ) → a < 256 → v < 256 → Legal (writeReg m a v)
   unfolding writeReg mayHold
   write-legal a v ha hv =
       by-test Legal (ltb a 0x04) (λ t. port-legal a v (ltb-true a 0x04 t) hv) (λ t.
-      by-test Legal (isHole a) (λ u. l) (λ hole.
+      by-test Legal (isHole a) (λ u. by-test Legal (eqb a 0xF0) (λ e. sio-legal v hv) (λ e. l)) (λ hole.
       by-test Legal (eqb a 0xF1) (λ e. tmr-legal v hv) (λ n1.
       by-test Legal (eqb a 0xFA) (λ e. placed-legal a (v % 64) l ha (omega arith) (rw (eqb-true a 0xFA e) (irq-may v hv))) (λ na.
       by-test Legal (eqb a 0xFD) (λ e. placed-legal a (upper v * 16) l ha (omega arith) (rw (eqb-true a 0xFD e) (rp-may v hv))) (λ nd.
@@ -276,6 +310,9 @@ all-placed (p ∷ ps) t f =
     (ltb→lt (p .byte) 256 (and-left (ltb (p .byte) 256) (mayHold (p .address) (p .byte)) more))
     (and-right (ltb (p .byte) 256) (mayHold (p .address) (p .byte)) more))
 
+resting-legal : LegalPort restingPort
+resting-legal = record { legal-receiver = waiting-legal 0 (lit< tt); legal-transmitter = idle-legal }
+
 -- a legal file, a type and an entry cost make a legal machine
 started-legal : (file : List ℕ) (kind cost : ℕ) → LegalFile file → T (isKind kind) → T (isCost cost) → Legal (startedWith file kind cost)
 unfolding resetPlaces mayHold movingOf
@@ -290,6 +327,7 @@ started-legal file kind cost f k c =
             counting0 = record { prescaler-low = lit< tt; prescaler-high = lit≤ tt; counter-low = lit< tt; counter-high = lit≤ tt };
             counting1 = record { prescaler-low = lit< tt; prescaler-high = lit≤ tt; counter-low = lit< tt; counter-high = lit≤ tt };
             irq-high = irq-small _ (after .bytes 0xFA) (after .places 0xFA);
+            port-legal = resting-legal;
           };
       last3-byte = lit< tt;
       kind = k;

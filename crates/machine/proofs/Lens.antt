@@ -101,6 +101,7 @@ module _ (m : Machine) (long : length (m .regs) ≡ 256) (tmr-byte : held m 0xF1
         put-other 0xF3 (omega arith) (omega arith),
         put-other 0xF4 (omega arith) (omega arith),
         put-other 0xF5 (omega arith) (omega arith),
+        put-other 0xF7 (omega arith) (omega arith),
       )
 
   -- the last put counts

@@ -1,4 +1,4 @@
--- R4 to R127, which are what they hold, and the holes 80 to EF and F0.
+-- R4 to R127, which are what they hold, the holes 80 to EF, and F0.
 use mathlib.Core.Path.{_≡_}
 use mathlib.Core.Bool.{true, _&&_}
 use Prim.Native.Nat.{ℕ, _<_, _≤_}
@@ -12,17 +12,21 @@ use Rattle.machine.specs.declared.Machine.{Machine}
 use Rattle.machine.specs.declared.Pins.{Pins}
 use Rattle.machine.specs.ForCode.{isGeneral}
 
-pub hole-reads : (p : Pins) (m : Machine) (a : ℕ) → 0x80 ≤ a → a ≤ 0xF0 → 0xFF ≡ readReg p m a
+pub hole-reads : (p : Pins) (m : Machine) (a : ℕ) → 0x80 ≤ a → a < 0xF0 → 0xFF ≡ readReg p m a
 unfolding readReg
 hole-reads p m a h k =
     let low : 0x04 ≤ a = omega arith in
-    simp (le-ltb, le-leb)
+    let top : a ≤ 0xF0 = omega arith in
+    let n0 : a ≡ 0xF0 → ⊥ = omega arith in
+    simp (le-ltb, le-leb, ne-eqb)
 
-pub hole-drops : (m : Machine) (a v : ℕ) → 0x80 ≤ a → a ≤ 0xF0 → m ≡ writeReg m a v
+pub hole-drops : (m : Machine) (a v : ℕ) → 0x80 ≤ a → a < 0xF0 → m ≡ writeReg m a v
 unfolding writeReg
 hole-drops m a v h k =
     let low : 0x04 ≤ a = omega arith in
-    simp (le-ltb, le-leb)
+    let top : a ≤ 0xF0 = omega arith in
+    let n0 : a ≡ 0xF0 → ⊥ = omega arith in
+    simp (le-ltb, le-leb, ne-eqb)
 
 pub general-reads : (p : Pins) (m : Machine) (a : ℕ) → 0x04 ≤ a → a < 0x80 → held m a ≡ readReg p m a
 unfolding readReg

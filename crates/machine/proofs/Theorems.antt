@@ -2,6 +2,7 @@
 -- part alone, and the closed formula.
 use mathlib.Core.Path.{_≡_, _∙_, refl, ap, sym}
 use mathlib.Core.Logic.{_≢_}
+use mathlib.Core.Bool.{Bool, true, false}
 use Prim.Native.Nat.{ℕ, _+_, _*_, _/_, _%_, _^_, _<_}
 use native.Mathlib.Omega.{arith}
 use borrow.Author.Tests.{eqb-true, ne-eqb}
@@ -10,20 +11,25 @@ use lib.ListN.{length}
 use lib.Bits.{bitAnd, or-mod, or-zero-r}
 use Rattle.word.specs.Fields.{bitOf, lower}
 use Rattle.word.proofs.Computed.{by-test, agree}
-use Rattle.timers.specs.Requests.{latch}
+use Rattle.timers.specs.Requests.{latch, latchedIf}
 use Rattle.timers.specs.Control.{settingOf, setupOf}
-use Rattle.timers.specs.Clock.{endOf, tickBoth, cycle, cycles, begun, atDivider, Which, T0, T1, setupFor, countingFor, endsFor, gone, Steady}
+use Rattle.timers.specs.Clock.{endOf, askedFor, bitClock, end0Of, tickBoth, cycle, cycles, begun, atDivider, Which, T0, T1, setupFor, countingFor, endsFor, gone, Steady}
 use Rattle.timers.specs.declared.Setup.{Setup}
 use Rattle.timers.specs.declared.Setting.{Setting}
 use Rattle.timers.specs.declared.Source.the-variants.{Divider}
 use Rattle.timers.specs.declared.Lines.{Lines}
 use Rattle.timers.specs.declared.Moving.{Moving}
 use Rattle.timers.specs.declared.Spanned.{Spanned}
+use Rattle.word.specs.Iter.{iter}
 use Rattle.word.proofs.Iterate.{iter-keeps}
+use Rattle.serial.specs.Port.{portEnd, portEnds}
+use Rattle.serial.specs.declared.Mode.{Mode}
+use Rattle.serial.specs.declared.Ended.{Ended}
 use Rattle.timers.proofs.Formula.{formula}
 use Rattle.timers.proofs.Legal.{cycles-legal}
-use Rattle.machine.specs.State.{coreOf, held, placed}
+use Rattle.machine.specs.State.{coreOf, held, placed, withPort}
 use Rattle.machine.specs.Clock.{Ran, controlOf, movingOf, countsAt, movedTo, writeTmr, shown, spanOf}
+use Rattle.machine.specs.Serial.{portMode, writeSio}
 use Rattle.machine.specs.Registers.{isHole, readReg, writePort, writeReg}
 use Rattle.machine.specs.Addresses.{workingAt, registerAt, indirectAt}
 use Rattle.machine.specs.Legal.{mayHold, Legal}
@@ -36,10 +42,10 @@ use Rattle.machine.proofs.Legal.{setting-of, irq-small}
 
 -- a store to register a leaves every other place
 pub store-leaves : (m : Machine) (a v b : ℕ) → b ≢ a → held (writeReg m a v) b ≡ held m b
-unfolding writeReg writePort writeTmr countsAt placed
+unfolding writeReg writePort writeTmr writeSio withPort countsAt placed
 store-leaves m a v b n =
     by-test S (ltb a 0x04) (λ t. held-other (m .regs) a b _ n) (λ t.
-    by-test S (isHole a) (λ u. refl) (λ u.
+    by-test S (isHole a) (λ u. by-test S (eqb a 0xF0) (λ e. by-test S (portMode m .on) (λ w. refl) (λ w. refl)) (λ e. refl)) (λ u.
     by-test S (eqb a 0xF1) (λ e. held-other (m .regs) 0xF1 b _ (λ own. n (own ∙ sym (eqb-true a 0xF1 e)))) (λ u.
     by-test S (eqb a 0xFA) (λ e. held-other (m .regs) a b _ n) (λ u.
     by-test S (eqb a 0xFD) (λ e. held-other (m .regs) a b _ n) (λ u. held-other (m .regs) a b _ n)))))
@@ -47,11 +53,11 @@ store-leaves m a v b n =
     S : Machine → Type 0
     S k = held k b ≡ held m b
 
--- and, but for TMR, all that is no place
-pub store-leaves-core : (m : Machine) (a v : ℕ) → a ≢ 0xF1 → coreOf (writeReg m a v) ≡ coreOf m
+-- and, but for SIO and TMR, all that is no place
+pub store-leaves-core : (m : Machine) (a v : ℕ) → a ≢ 0xF0 → a ≢ 0xF1 → coreOf (writeReg m a v) ≡ coreOf m
 unfolding writeReg writePort placed
-store-leaves-core m a v n =
-    rw (ne-eqb a 0xF1 n)
+store-leaves-core m a v z n =
+    rw (ne-eqb a 0xF0 z, ne-eqb a 0xF1 n)
     (by-test S (ltb a 0x04) (λ t. refl) (λ t.
     by-test S (isHole a) (λ u. refl) (λ u.
     by-test S (eqb a 0xFA) (λ e. refl) (λ u.
@@ -85,45 +91,61 @@ unheld-bits p m l = (
 )
 
 -- ---- a span
--- no end touches requests 0 to 3
-end-leaves : (s : Setup) → 2 ^ s .request % 16 ≡ 0 → (l : Lines) → endOf s l .irq % 16 ≡ l .irq % 16
-unfolding endOf latch
-end-leaves s e l = or-mod (l .irq) (2 ^ s .request) 4 ∙ rw e (or-zero-r (l .irq % 16))
+-- no end touches requests 0 to 2
+latch-leaves : (n irq : ℕ) → 2 ^ n % 8 ≡ 0 → latch n irq % 8 ≡ irq % 8
+unfolding latch
+latch-leaves n irq e = or-mod irq (2 ^ n) 3 ∙ rw e (or-zero-r (irq % 8))
+
+if-leaves : (asked : Bool) (n irq : ℕ) → 2 ^ n % 8 ≡ 0 → latchedIf asked n irq % 8 ≡ irq % 8
+unfolding latchedIf
+if-leaves true n irq e = latch-leaves n irq e
+if-leaves false n irq e = refl
+
+end-leaves : (s : Setup) → 2 ^ s .request % 8 ≡ 0 → (l : Lines) → endOf s l .irq % 8 ≡ l .irq % 8
+unfolding endOf
+end-leaves s e l = latch-leaves (s .request) (l .irq) e
+
+end0-leaves : (m : Mode) (s : Setup) → 2 ^ s .request % 8 ≡ 0 → (l : Lines) → end0Of m s l .irq % 8 ≡ l .irq % 8
+unfolding end0Of bitClock askedFor
+end0-leaves m s e l =
+    by-test (λ (x : Lines). x .irq % 8 ≡ l .irq % 8) (m .on)
+    (λ t. if-leaves (portEnd m (l .port) .asked3) 3 _ refl ∙ if-leaves (portEnd m (l .port) .asked4) 4 (l .irq) refl)
+    (λ t. end-leaves s e l)
 
 module _ (m : Machine) where
   abbrev set : Setting
   set = settingOf (controlOf m)
 
   abbrev Low : ℕ → Spanned → Type 0
-  Low irq x = x .moving .lines .irq % 16 ≡ irq % 16
+  Low irq x = x .moving .lines .irq % 8 ≡ irq % 8
 
   both-leave : (irq : ℕ) (x : Spanned) → Low irq x → Low irq (tickBoth Divider set x)
   unfolding tickBoth settingOf setupOf
   both-leave irq x e =
       iter-keeps (endOf (set .t1)) L (λ l h. end-leaves (set .t1) refl l ∙ h) _ _
-      (iter-keeps (endOf (set .t0)) L (λ l h. end-leaves (set .t0) refl l ∙ h) _ (x .moving .lines) e)
+      (iter-keeps (end0Of (set .port) (set .t0)) L (λ l h. end0-leaves (set .port) (set .t0) refl l ∙ h) _ (x .moving .lines) e)
     where
       L : Lines → Type 0
-      L l = l .irq % 16 ≡ irq % 16
+      L l = l .irq % 8 ≡ irq % 8
 
   cycle-leaves : (irq : ℕ) (x : Spanned) → Low irq x → Low irq (cycle set x)
   unfolding cycle
   cycle-leaves irq x e =
       by-test (Low irq) (eqb ((x .moving .divider + 1) % 4) 0) (λ t. both-leave irq (atDivider x ((x .moving .divider + 1) % 4)) e) (λ t. e)
 
-  cycles-leave : (n : ℕ) → cycles set n (movingOf m) .moving .lines .irq % 16 ≡ movingOf m .lines .irq % 16
+  cycles-leave : (n : ℕ) → cycles set n (movingOf m) .moving .lines .irq % 8 ≡ movingOf m .lines .irq % 8
   unfolding cycles
   cycles-leave n = iter-keeps (cycle set) (Low (movingOf m .lines .irq)) (cycle-leaves (movingOf m .lines .irq)) n (begun (movingOf m)) refl
 
--- of a request byte below 64, all but requests 4 and 5
-low-bits : (x : ℕ) → x < 64 → bitAnd x 0xCF ≡ x % 16
-low-bits x h = agree (λ y. bitAnd y 0xCF) (λ y. y % 16) 64 refl x h
+-- of a request byte below 64, all but requests 3 to 5
+low-bits : (x : ℕ) → x < 64 → bitAnd x 0xC7 ≡ x % 8
+low-bits x h = agree (λ y. bitAnd y 0xC7) (λ y. y % 8) 64 refl x h
 
--- all that a span moves: the divider, the counts, T_OUT, the enable bits of TMR, requests 4 and 5
+-- all that a span moves: the divider, the counts, T_OUT, the enable bits of TMR, requests 3 to 5, the serial port
 pub record SpanLeaves (m k : Machine) : Type 0 where
   pub places : (a : ℕ) → (a ≡ 0xF1 → ⊥) → (a ≡ 0xFA → ⊥) → held k a ≡ held m a
   pub tmr-but-enables : bitAnd (held k 0xF1) 0xF5 ≡ bitAnd (held m 0xF1) 0xF5
-  pub irq-but-requests-4-and-5 : bitAnd (held k 0xFA) 0xCF ≡ bitAnd (held m 0xFA) 0xCF
+  pub irq-but-requests-3-to-5 : bitAnd (held k 0xFA) 0xC7 ≡ bitAnd (held m 0xFA) 0xC7
   pub pc : k .pc ≡ m .pc
   pub last3 : k .last3 ≡ m .last3
   pub kind : k .kind ≡ m .kind
@@ -140,13 +162,13 @@ span-leaves m l n = rw (span-is m long byte n) (moved-leaves (cycles (settingOf 
     byte : held m 0xF1 < 256
     byte = l .file .bytes 0xF1
 
-    moved-leaves : (x : Moving) → x .lines .irq % 16 ≡ movingOf m .lines .irq % 16 → x .lines .irq < 64 → SpanLeaves m (movedTo m x)
+    moved-leaves : (x : Moving) → x .lines .irq % 8 ≡ movingOf m .lines .irq % 8 → x .lines .irq < 64 → SpanLeaves m (movedTo m x)
     moved-leaves x e h =
         record {
           places = put-other m long byte x;
           tmr-but-enables = ap (λ (t : ℕ). bitAnd t 0xF5) (put-tmr m long byte x) ∙ rest-kept (x .t0 .enabled) (x .t1 .enabled) (held m 0xF1) byte;
-          irq-but-requests-4-and-5 =
-              ap (λ (i : ℕ). bitAnd i 0xCF) (put-irq m long byte x) ∙ low-bits (x .lines .irq) h ∙ e ∙ sym (low-bits (held m 0xFA) (l .moving .irq-high));
+          irq-but-requests-3-to-5 =
+              ap (λ (i : ℕ). bitAnd i 0xC7) (put-irq m long byte x) ∙ low-bits (x .lines .irq) h ∙ e ∙ sym (low-bits (held m 0xFA) (l .moving .irq-high));
           pc = refl;
           last3 = refl;
           kind = refl;

@@ -9,8 +9,10 @@ use Rattle.word.specs.Words.{plus}
 use Rattle.word.proofs.Computed.{by-test}
 use Rattle.timers.specs.Clock.{written}
 use Rattle.word.proofs.Iterate.{iter-keeps}
-use Rattle.machine.specs.State.{placedIn, whole, placed}
+use Rattle.serial.specs.declared.Mode.{Mode}
+use Rattle.machine.specs.State.{placedIn, whole, placed, withPort}
 use Rattle.machine.specs.Clock.{movingOf, countsAt, movedTo, writeTmr, Ran, shown, cycleOf, spanOf}
+use Rattle.machine.specs.Serial.{portMode, writeSio}
 use Rattle.machine.specs.Registers.{isHole, writePort, writeReg}
 use Rattle.machine.specs.Addresses.{evenOf, writePair}
 use Rattle.machine.specs.Memory.{listOf}
@@ -52,11 +54,18 @@ tmr-keeps : (m : Machine) (v : ℕ) → Keeps m (writeTmr m v)
 unfolding writeTmr countsAt placed written movingOf
 tmr-keeps m v = record { pc-kept = refl; divider-kept = refl; last3-kept = refl; kind-kept = refl; cost-kept = refl }
 
+sio-keeps : (m : Machine) (v : ℕ) → Keeps m (writeSio m v)
+unfolding writeSio withPort
+sio-keeps m v =
+    by-test (Keeps m) (portMode m .on)
+    (λ t. record { pc-kept = refl; divider-kept = refl; last3-kept = refl; kind-kept = refl; cost-kept = refl })
+    (λ t. itself m)
+
 pub write-keeps : (m : Machine) (a v : ℕ) → Keeps m (writeReg m a v)
 unfolding writeReg writePort
 write-keeps m a v =
     by-test (Keeps m) (ltb a 0x04) (λ t. place-keeps m a _) (λ t.
-    by-test (Keeps m) (isHole a) (λ u. itself m) (λ u.
+    by-test (Keeps m) (isHole a) (λ u. by-test (Keeps m) (eqb a 0xF0) (λ e. sio-keeps m v) (λ e. itself m)) (λ u.
     by-test (Keeps m) (eqb a 0xF1) (λ e. tmr-keeps m v) (λ u.
     by-test (Keeps m) (eqb a 0xFA) (λ e. place-keeps m a (v % 64)) (λ u.
     by-test (Keeps m) (eqb a 0xFD) (λ e. place-keeps m a (upper v * 16)) (λ u. place-keeps m a v)))))

@@ -1,4 +1,4 @@
--- What the timers read and move of a machine, and the machine's own cycles (01 "The timers").
+-- What the timers and the serial port read and move of a machine, and the machine's own cycles (01 "The timers"; 02, C-11).
 use mathlib.Core.Bool.{Bool}
 use Prim.Native.Nat.{ℕ}
 use lib.Bits.{bitAnd, bitOr}
@@ -9,28 +9,28 @@ use Rattle.timers.specs.declared.Control.{Control}
 use Rattle.timers.specs.declared.Timer.{Timer}
 use Rattle.timers.specs.declared.Moving.{Moving}
 use Rattle.timers.specs.declared.Spanned.{Spanned}
-use Rattle.machine.specs.Names.{TMR, T1, PRE1, T0, PRE0, IRQ}
+use Rattle.machine.specs.Names.{TMR, T1, PRE1, T0, PRE0, P3M, IRQ}
 use Rattle.word.specs.Choose.{bitsIf}
-use Rattle.machine.specs.State.{whole, coreOf, held, placed}
+use Rattle.machine.specs.State.{whole, coreOf, held, placed, atPort}
 use Rattle.machine.specs.declared.Machine.{Machine}
 use Rattle.machine.specs.declared.Core.{Core}
 
--- what the timers read, with this byte for TMR: F2 to F5 hold start values and prescaler fields; "P31 is as in the last pins"
+-- what they read, with this byte for TMR: F2 to F5 hold start values and prescaler fields; "P31 is as in the last pins", and so is P30
 unfoldable pub controlWith : Machine → ℕ → Control
 controlWith m tmr =
-    record { tmr = tmr; t1 = held m T1; pre1 = held m PRE1; t0 = held m T0; pre0 = held m PRE0; port3 = m .last3 }
+    record { tmr = tmr; t1 = held m T1; pre1 = held m PRE1; t0 = held m T0; pre0 = held m PRE0; p3m = held m P3M; port3 = m .last3 }
 
 unfoldable pub controlOf : Machine → Control
 controlOf m = controlWith m (held m TMR)
 
--- what cycles move: the divider, the counts in progress with the enable bits that stand in TMR, IRQ, T_OUT
+-- what cycles move: the divider, the counts in progress with the enable bits that stand in TMR, IRQ, T_OUT, the serial port
 unfoldable pub movingOf : Machine → Moving
 movingOf m =
     record {
       divider = m .divider;
       t0 = record { timer = m .t0; enabled = enable0 (held m TMR) };
       t1 = record { timer = m .t1; enabled = enable1 (held m TMR) };
-      lines = record { irq = held m IRQ; tout = m .tout };
+      lines = record { irq = held m IRQ; tout = m .tout; port = m .port };
     }
 
 -- TMR with these enable bits, 1 for T0 and 3 for T1
@@ -49,10 +49,12 @@ countingAt k divider t0 t1 tout =
       tout = tout;
       kind = k .kind;
       cost = k .cost;
+      port = k .port;
     }
 
+-- with the serial port too: all that cycles move but what stands in the file
 abbrev pub coreAt : Core → Moving → Core
-coreAt k x = countingAt k (x .divider) (x .t0 .timer) (x .t1 .timer) (x .lines .tout)
+coreAt k x = atPort (countingAt k (x .divider) (x .t0 .timer) (x .t1 .timer) (x .lines .tout)) (x .lines .port)
 
 unfoldable pub countsAt : Machine → Moving → Machine
 countsAt m x = whole (m .regs) (coreAt (coreOf m) x)

@@ -2,6 +2,7 @@ pub mod Names
 pub mod State
 pub mod Ports
 pub mod Clock
+pub mod Serial
 pub mod Registers
 pub mod Addresses
 pub mod Memory

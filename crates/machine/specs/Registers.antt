@@ -5,15 +5,16 @@ use lib.Dec.{eqb, ltb, leb}
 use lib.Bits.{bitAnd}
 use Rattle.word.specs.Choose.{pick}
 use Rattle.word.specs.Fields.{upper, lowByte}
-use Rattle.machine.specs.Names.{TMR, T1, T0, P2M, P01M, IRQ, IMR, RP}
+use Rattle.machine.specs.Names.{SIO, TMR, T1, T0, P2M, P01M, IRQ, IMR, RP}
 use Rattle.machine.specs.State.{held, placed}
 use Rattle.machine.specs.Ports.{directionsOf, pinsOf, portReads, portStores}
 use Rattle.machine.specs.Clock.{writeTmr}
+use Rattle.machine.specs.Serial.{readSio, writeSio}
 use Rattle.machine.specs.declared.Machine.{Machine}
 use Rattle.machine.specs.declared.Pins.{Pins}
 use Rattle.machine.specs.declared.ports.Directions.{Directions}
 
--- "80 to EF and F0 read FF and drop stores (HOUSE)."
+-- "80 to EF and F0 read FF and drop stores (HOUSE)": F0 while the serial port is off (02, C-11)
 abbrev pub isHole : ℕ → Bool
 isHole a = leb 0x80 a && leb a 0xF0
 
@@ -36,19 +37,19 @@ writePort m a v = placed m a (portStores (portDirections m a) (held m a) v)
 unfoldable pub readReg : Pins → Machine → ℕ → ℕ
 readReg p m a =
     pick (ltb a 0x04) (readPort p m a)
-    (pick (isHole a) 0xFF
+    (pick (isHole a) (pick (eqb a SIO) (readSio m) 0xFF)
     (pick (isWriteOnly a) 0xFF
     (pick (eqb a T1) (lowByte (m .t1 .counter))
     (pick (eqb a T0) (lowByte (m .t0 .counter))
     (pick (eqb a IMR) (bitAnd (held m a) 0xBF)
     (held m a))))))
 
--- a store of v to register a: a hole drops it, TMR (F1) acts on its load bits, IRQ (FA) drops bits 6 and 7 (HOUSE), and RP (FD) its low
+-- a store of v to register a: a hole drops it, SIO (F0) sends it while the port is on, TMR (F1) acts on its load bits, IRQ (FA) drops bits 6 and 7 (HOUSE), and RP (FD) its low
 -- nibble, which "always reads 0 (HOUSE)". All others hold what is stored: "F2 and F4 hold start values".
 unfoldable pub writeReg : Machine → ℕ → ℕ → Machine
 writeReg m a v =
     pick (ltb a 0x04) (writePort m a v)
-    (pick (isHole a) m
+    (pick (isHole a) (pick (eqb a SIO) (writeSio m v) m)
     (pick (eqb a TMR) (writeTmr m v)
     (pick (eqb a IRQ) (placed m a (v % 64))
     (pick (eqb a RP) (placed m a (upper v * 16))

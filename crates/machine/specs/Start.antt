@@ -6,6 +6,9 @@ use lib.Dec.{eqb, leb}
 use lib.ListN.{replicate}
 use Rattle.numbers.specs.Numbers.{refusedMaking, fileLength}
 use Rattle.word.specs.Choose.{pick}
+use Rattle.serial.specs.Transmitter.{idle}
+use Rattle.serial.specs.Receiver.{waiting}
+use Rattle.serial.specs.declared.Port.{Port}
 use Rattle.timers.specs.declared.Timer.{Timer}
 use Rattle.machine.specs.Names.{SIO, TMR, T1, PRE1, T0, PRE0, P2M, P3M, P01M, IPR, IRQ, IMR, FLAGS, RP, SPH, SPL}
 use Rattle.machine.specs.State.{placedIn}
@@ -37,6 +40,10 @@ resetPlaces =
 abbrev pub fullTimer : Timer
 fullTimer = record { prescaler = 64; counter = 256 }
 
+-- the serial port at rest: nothing received yet, both halves idle ("After a hardware reset", 004, 12.3.1 and 12.4)
+abbrev pub restingPort : Port
+restingPort = record { receiver = waiting 0; transmitter = idle }
+
 -- "Reset: PC 000C, [the places above,] divider 0; [..] T_OUT 1, prescalers 64, counters saved as 0, last pins all ones."
 abbrev pub startedWith : List ℕ → ℕ → ℕ → Machine
 startedWith file kind cost =
@@ -50,6 +57,7 @@ startedWith file kind cost =
       tout = true;
       kind = kind;
       cost = cost;
+      port = restingPort;
     }
 
 -- "R4 to R127, type and entry cost stay"

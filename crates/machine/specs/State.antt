@@ -4,6 +4,7 @@
 use mathlib.Core.List.{List}
 use Prim.Native.Nat.{ℕ}
 use lib.ListN.{getD, set}
+use Rattle.serial.specs.declared.Port.{Port}
 use Rattle.machine.specs.declared.Machine.{Machine}
 use Rattle.machine.specs.declared.Core.{Core}
 
@@ -29,6 +30,7 @@ whole file k =
       tout = k .tout;
       kind = k .kind;
       cost = k .cost;
+      port = k .port;
     }
 
 abbrev pub coreOf : Machine → Core
@@ -42,6 +44,7 @@ coreOf m =
       tout = m .tout;
       kind = m .kind;
       cost = m .cost;
+      port = m .port;
     }
 
 -- what a machine's place holds, and the machine with v there and all else as it was
@@ -63,6 +66,7 @@ atPc k pc =
       tout = k .tout;
       kind = k .kind;
       cost = k .cost;
+      port = k .port;
     }
 
 unfoldable pub withPc : Machine → ℕ → Machine
@@ -80,7 +84,26 @@ atLast3 k port3 =
       tout = k .tout;
       kind = k .kind;
       cost = k .cost;
+      port = k .port;
     }
 
 unfoldable pub withLast3 : Machine → ℕ → Machine
 withLast3 m port3 = whole (m .regs) (atLast3 (coreOf m) port3)
+
+-- the same with another serial port
+abbrev pub atPort : Core → Port → Core
+atPort k port =
+    record {
+      pc = k .pc;
+      divider = k .divider;
+      t0 = k .t0;
+      t1 = k .t1;
+      last3 = k .last3;
+      tout = k .tout;
+      kind = k .kind;
+      cost = k .cost;
+      port = port;
+    }
+
+unfoldable pub withPort : Machine → Port → Machine
+withPort m port = whole (m .regs) (atPort (coreOf m) port)

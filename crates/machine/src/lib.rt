@@ -6,13 +6,14 @@ pub mod names;
 pub mod ports;
 pub mod start;
 
+use serial::Port;
 use timers::Timer;
 
 // The register file: "256 places in address order" (01).
 pub type File = [u8; numbers::FILE_LENGTH];
 
 // 01's machine: the register file in address order, the program counter, the divider, both timers' counts in progress, the last Port 3
-// pins, the T_OUT level, the type (1 or 11) and the interrupt entry cost.
+// pins, the T_OUT level, the type (1 or 11) and the interrupt entry cost; and C-11's serial port.
 pub struct Machine {
     pub regs: File,
     pub pc: u16,
@@ -23,6 +24,7 @@ pub struct Machine {
     pub tout: bool,
     pub kind: u8,
     pub cost: u8,
+    pub port: Port,
 }
 
 // A machine but for its register file: what the definitions put beside a file, and what the numbers are that `lent` lends.
@@ -35,6 +37,7 @@ pub struct Core {
     pub tout: bool,
     pub kind: u8,
     pub cost: u8,
+    pub port: Port,
 }
 
 // The pins of ports 0 to 3, as given with a call. They are no part of the machine.

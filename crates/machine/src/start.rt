@@ -2,9 +2,10 @@
 use crate::File;
 use crate::Machine;
 use crate::names;
+use serial::Port;
 use timers::Timer;
 ghost use mathlib.Core.Path.{_≡_};
-ghost use Rattle.machine.specs.Start.{placedAll, resetPlaces, startedWith, resetOf, newOf, defaultOf, isKind, isCost, madeOf, fullTimer};
+ghost use Rattle.machine.specs.Start.{placedAll, resetPlaces, startedWith, resetOf, newOf, defaultOf, isKind, isCost, madeOf, fullTimer, restingPort};
 
 // A new machine; or a refusal's number, and then the standard machine, as the answer has to hold one.
 pub struct Made {
@@ -18,6 +19,18 @@ fn full_timer() -> Timer
     Timer {
         prescaler: 64,
         counter: 256,
+    }
+}
+
+// The serial port at rest.
+fn resting_port() -> Port
+    ensures { λ r. ⌜ r ≡ restingPort ⌝ }
+{
+    let receiver = serial::receiving::waiting(0);
+    let transmitter = serial::sending::idle();
+    Port {
+        receiver,
+        transmitter,
     }
 }
 
@@ -55,6 +68,7 @@ fn started_with(file: File, kind: u8, cost: u8) -> Machine
     reset_places(&mut regs);
     let t0 = full_timer();
     let t1 = full_timer();
+    let port = resting_port();
     Machine {
         regs,
         pc: 0x000C,
@@ -65,6 +79,7 @@ fn started_with(file: File, kind: u8, cost: u8) -> Machine
         tout: true,
         kind,
         cost,
+        port,
     }
 }
 
