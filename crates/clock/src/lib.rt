@@ -1,7 +1,8 @@
-// The clock of a machine: what the timers read and move of it, a write to TMR, and any number of cycles.
+// The clock of a machine: what the timers and the serial port read and move of it, a write to TMR, and any number of cycles.
 use lent::Rest;
 use machine::File;
 use machine::names;
+use serial::Mode;
 use timers::Control;
 use timers::Counting;
 use timers::Lines;
@@ -9,6 +10,7 @@ use timers::Moving;
 use timers::Timer;
 ghost use mathlib.Core.Path.{_≡_};
 ghost use Rattle.machine.specs.Clock.{controlWith, controlOf, movingOf, enabling, countsAt, movedTo, writeTmr, spanOf};
+ghost use Rattle.machine.specs.Serial.{portMode};
 ghost use Rattle.machine.specs.Legal.{Legal};
 ghost use Rattle.lent.specs.View.{machineIn};
 ghost use Rattle.clock.specs.ForCode.{ranOf};
@@ -19,6 +21,15 @@ pub struct Ends {
     pub ends1: u32,
 }
 
+// What the serial port reads of a machine.
+pub fn port_mode(regs: &File, rest: &Rest) -> Mode
+    ensures { λ r. ⌜ r ≡ portMode (machineIn (now (regs .entry)) (now (rest .entry))) ⌝ }
+{
+    let p3m = machine::file::held(regs, names::P3M);
+    let port3 = lent::last3(rest);
+    timers::registers::port_mode(p3m, port3)
+}
+
 fn control_with(regs: &File, rest: &Rest, tmr: u8) -> Control
     ensures { λ r. ⌜ r ≡ controlWith (machineIn (now (regs .entry)) (now (rest .entry))) tmr ⌝ }
 {
@@ -26,6 +37,7 @@ fn control_with(regs: &File, rest: &Rest, tmr: u8) -> Control
     let pre1 = machine::file::held(regs, names::PRE1);
     let t0 = machine::file::held(regs, names::T0);
     let pre0 = machine::file::held(regs, names::PRE0);
+    let p3m = machine::file::held(regs, names::P3M);
     let port3 = lent::last3(rest);
     Control {
         tmr,
@@ -33,11 +45,12 @@ fn control_with(regs: &File, rest: &Rest, tmr: u8) -> Control
         pre1,
         t0,
         pre0,
+        p3m,
         port3,
     }
 }
 
-// What the timers read of a machine.
+// What they read of a machine.
 pub fn control_of(regs: &File, rest: &Rest) -> Control
     ensures { λ r. ⌜ r ≡ controlOf (machineIn (now (regs .entry)) (now (rest .entry))) ⌝ }
 {
@@ -57,6 +70,7 @@ pub fn moving_of(regs: &File, rest: &Rest) -> Moving
     let timer0 = lent::t0(rest);
     let timer1 = lent::t1(rest);
     let tout = lent::tout(rest);
+    let port = lent::port(rest);
     let t0 = Counting {
         timer: timer0,
         enabled: on0,
@@ -65,7 +79,7 @@ pub fn moving_of(regs: &File, rest: &Rest) -> Moving
         timer: timer1,
         enabled: on1,
     };
-    let lines = Lines { irq, tout };
+    let lines = Lines { irq, tout, port };
     Moving {
         divider,
         t0,
@@ -83,7 +97,7 @@ fn enabling(tmr: u8, on0: bool, on1: bool) -> u8
     (tmr & 0xF5) | (bit0 | bit1)
 }
 
-// The machine with these counts and this T_OUT level; the file stays.
+// The machine with these counts, this T_OUT level and this serial port; the file stays.
 fn put(regs: &File, rest: &mut Rest, x: Moving)
     ensures { λ _. ⌜ machineIn (now (regs .entry)) (now (rest .exit)) ≡ countsAt (machineIn (now (regs .entry)) (now (rest .entry))) x ⌝ }
 {
@@ -94,6 +108,8 @@ fn put(regs: &File, rest: &mut Rest, x: Moving)
     let t1 = counting1.timer;
     lent::set_counts(rest, x.divider, t0, t1);
     lent::set_tout(rest, lines.tout);
+    let port = lines.port;
+    lent::set_port(rest, port);
 }
 
 // The machine with all that cycles move as given.

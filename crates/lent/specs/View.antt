@@ -4,6 +4,8 @@ use mathlib.Core.List.{List}
 use Prim.Native.Nat.{ℕ, _+_, _%_}
 use lib.Dec.{eqb}
 use lib.ListN.{getD}
+use Rattle.serial.specs.declared.Receiver.{Receiver}
+use Rattle.serial.specs.declared.Transmitter.{Transmitter}
 use Rattle.timers.specs.declared.Timer.{Timer}
 use Rattle.machine.specs.State.{whole}
 use Rattle.machine.specs.Memory.{storedIn}
@@ -14,6 +16,16 @@ use Rattle.machine.specs.declared.Core.{Core}
 -- a count in progress, its prescaler's place and the counter's after it
 abbrev pub timerIn : List ℕ → ℕ → Timer
 timerIn rest at = record { prescaler = getD rest at 0; counter = getD rest (at + 1) 0 }
+
+-- the serial port's bytes, from place 10 on
+abbrev pub byteIn : List ℕ → ℕ → ℕ
+byteIn rest at = getD rest at 0 % 256
+
+abbrev pub receiverIn : List ℕ → Receiver
+receiverIn rest = record { received = byteIn rest 10; shift = byteIn rest 11; awaited = byteIn rest 12; ends = byteIn rest 13 }
+
+abbrev pub transmitterIn : List ℕ → Transmitter
+transmitterIn rest = record { bits = byteIn rest 14; place = byteIn rest 15; ends = byteIn rest 16 }
 
 -- the rest of a machine, by place
 unfoldable pub coreIn : List ℕ → Core
@@ -27,6 +39,7 @@ coreIn rest =
       tout = eqb (getD rest 6 0) 1;
       kind = getD rest 8 0 % 256;
       cost = getD rest 9 0 % 256;
+      port = record { receiver = receiverIn rest; transmitter = transmitterIn rest };
     }
 
 -- the machine of a lent file and a lent rest

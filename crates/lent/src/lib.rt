@@ -5,16 +5,19 @@ pub mod memory;
 
 use machine::File;
 use machine::Machine;
+use serial::Port;
+use serial::Receiver;
+use serial::Transmitter;
 use timers::Timer;
 ghost use mathlib.Core.Path.{_≡_};
 ghost use Prim.Native.Nat.{_<_};
 ghost use lib.ListN.{length};
-ghost use Rattle.machine.specs.State.{withPc, withLast3, coreOf};
+ghost use Rattle.machine.specs.State.{withPc, withLast3, atPort, coreOf};
 ghost use Rattle.machine.specs.Clock.{countingAt};
-ghost use Rattle.lent.specs.View.{timerIn, coreIn, machineIn};
+ghost use Rattle.lent.specs.View.{timerIn, byteIn, receiverIn, transmitterIn, coreIn, machineIn};
 
 // All of a machine but its register file, by place.
-pub type Rest = [u32; 10];
+pub type Rest = [u32; 17];
 
 const PC: usize = 0;
 
@@ -32,13 +35,28 @@ const KIND: usize = 8;
 
 const COST: usize = 9;
 
+// The receiver's received byte, shift register, what it awaits, and ends; the transmitter's bits, place and ends.
+const RECEIVED: usize = 10;
+
+const SHIFT: usize = 11;
+
+const AWAITED: usize = 12;
+
+const RECEIVER_ENDS: usize = 13;
+
+const BITS: usize = 14;
+
+const PLACE: usize = 15;
+
+const TRANSMITTER_ENDS: usize = 16;
+
 fn sized(rest: Rest)
-    ensures { λ _. ⌜ length rest ≡ 10 ⌝ }
+    ensures { λ _. ⌜ length rest ≡ 17 ⌝ }
 {}
 
 // How many places there are, for the proofs of what stores to one. It compiles to nothing.
 fn long(rest: &Rest)
-    ensures { λ _. ⌜ length (now (rest .entry)) ≡ 10 ⌝ }
+    ensures { λ _. ⌜ length (now (rest .entry)) ≡ 17 ⌝ }
 {
     let all = *rest;
     sized(all);
@@ -50,6 +68,9 @@ pub fn lend(m: Machine) -> Rest
 {
     let t0 = m.t0;
     let t1 = m.t1;
+    let port = m.port;
+    let receiver = port.receiver;
+    let transmitter = port.transmitter;
     let tout = word::bits_if(m.tout, 1);
     [
         m.pc as u32,
@@ -62,6 +83,13 @@ pub fn lend(m: Machine) -> Rest
         m.last3 as u32,
         m.kind as u32,
         m.cost as u32,
+        receiver.received as u32,
+        receiver.shift as u32,
+        receiver.awaited as u32,
+        receiver.ends as u32,
+        transmitter.bits as u32,
+        transmitter.place as u32,
+        transmitter.ends as u32,
     ]
 }
 
@@ -77,6 +105,7 @@ pub fn machine_of(regs: File, rest: &Rest) -> Machine
     let tout = tout(rest);
     let kind = kind(rest);
     let cost = cost(rest);
+    let port = port(rest);
     Machine {
         regs,
         pc,
@@ -87,6 +116,7 @@ pub fn machine_of(regs: File, rest: &Rest) -> Machine
         tout,
         kind,
         cost,
+        port,
     }
 }
 
@@ -192,4 +222,71 @@ pub fn cost(rest: &Rest) -> u8
     ensures { λ r. ⌜ r ≡ coreIn (now (rest .entry)) .cost ⌝ }
 {
     (rest[COST] % 256) as u8
+}
+
+// The byte at a place of the serial port's.
+fn byte(rest: &Rest, at: usize) -> u8
+    requires { ⌜ at < 17 ⌝ }
+    ensures { λ r. ⌜ r ≡ byteIn (now (rest .entry)) at ⌝ }
+{
+    (rest[at] % 256) as u8
+}
+
+fn receiver(rest: &Rest) -> Receiver
+    ensures { λ r. ⌜ r ≡ receiverIn (now (rest .entry)) ⌝ }
+{
+    let received = byte(rest, RECEIVED);
+    let shift = byte(rest, SHIFT);
+    let awaited = byte(rest, AWAITED);
+    let ends = byte(rest, RECEIVER_ENDS);
+    Receiver {
+        received,
+        shift,
+        awaited,
+        ends,
+    }
+}
+
+fn transmitter(rest: &Rest) -> Transmitter
+    ensures { λ r. ⌜ r ≡ transmitterIn (now (rest .entry)) ⌝ }
+{
+    let bits = byte(rest, BITS);
+    let place = byte(rest, PLACE);
+    let ends = byte(rest, TRANSMITTER_ENDS);
+    Transmitter { bits, place, ends }
+}
+
+// The serial port.
+pub fn port(rest: &Rest) -> Port
+    ensures { λ r. ⌜ r ≡ coreIn (now (rest .entry)) .port ⌝ }
+{
+    let receiver = receiver(rest);
+    let transmitter = transmitter(rest);
+    Port {
+        receiver,
+        transmitter,
+    }
+}
+
+// The byte received last.
+pub fn received(rest: &Rest) -> u8
+    ensures { λ r. ⌜ r ≡ coreIn (now (rest .entry)) .port .receiver .received ⌝ }
+{
+    byte(rest, RECEIVED)
+}
+
+// The rest with this serial port.
+pub fn set_port(rest: &mut Rest, port: Port)
+    ensures { λ _. ⌜ coreIn (now (rest .exit)) ≡ atPort (coreIn (now (rest .entry))) port ⌝ }
+{
+    long(rest);
+    let receiver = port.receiver;
+    rest[RECEIVED] = receiver.received as u32;
+    rest[SHIFT] = receiver.shift as u32;
+    rest[AWAITED] = receiver.awaited as u32;
+    rest[RECEIVER_ENDS] = receiver.ends as u32;
+    let transmitter = port.transmitter;
+    rest[BITS] = transmitter.bits as u32;
+    rest[PLACE] = transmitter.place as u32;
+    rest[TRANSMITTER_ENDS] = transmitter.ends as u32;
 }

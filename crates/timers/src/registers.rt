@@ -60,7 +60,7 @@ pub fn moves_t1(c: Control, enabled: bool) -> bool
 }
 
 // What the serial port reads of P3M and of Port 3.
-fn port_mode(p3m: u8, port3: u8) -> Mode
+pub fn port_mode(p3m: u8, port3: u8) -> Mode
     ensures { λ r. ⌜ r ≡ modeOf p3m port3 ⌝ }
 {
     let on = word::is_set(6, p3m);

@@ -27,16 +27,19 @@ t1-requires c κs = search needs
 tout-requires : tie.Need-tout-requires
 tout-requires c κs = search needs
 
+port-requires : tie.Need-port-requires
+port-requires c κs = search needs
+
 returns : tie.Need-returns
 unfolding movingOf
 returns c =
-    let count0 = c .before .before .t0 .ensures in
-    let divider-read = c .before .before .before .divider .ensures in
-    let enable1 = c .before .before .before .before .is-set2 .ensures in
-    let enable0 = c .before .before .before .before .before .is-set .ensures in
-    let irq = c .before .before .before .before .before .before .held2 .ensures in
-    let tmr = c .before .before .before .before .before .before .before .held .ensures in
-    simp (c .tout .ensures, c .before .t1 .ensures, count0, divider-read, enable1, enable0, irq, tmr)
+    let count0 = c .before .before .before .t0 .ensures in
+    let divider-read = c .before .before .before .before .divider .ensures in
+    let enable1 = c .before .before .before .before .before .is-set2 .ensures in
+    let enable0 = c .before .before .before .before .before .before .is-set .ensures in
+    let irq = c .before .before .before .before .before .before .before .held2 .ensures in
+    let tmr = c .before .before .before .before .before .before .before .before .held .ensures in
+    simp (c .port .ensures, c .before .tout .ensures, c .before .before .t1 .ensures, count0, divider-read, enable1, enable0, irq, tmr)
 
 pub moving-of-spec : {M : Type 1} → statement M
 moving-of-spec =
@@ -50,4 +53,5 @@ moving-of-spec =
     t0-requires
     t1-requires
     tout-requires
+    port-requires
     returns)

@@ -26,15 +26,18 @@ kind-requires c κs = search needs
 cost-requires : tie.Need-cost-requires
 cost-requires c κs = search needs
 
+port-requires : tie.Need-port-requires
+port-requires c κs = search needs
+
 returns : tie.Need-returns
 returns c =
-    let t-out = c .before .before .tout .ensures in
-    let last-pins = c .before .before .before .last3 .ensures in
-    let count1 = c .before .before .before .before .t1 .ensures in
-    let count0 = c .before .before .before .before .before .t0 .ensures in
-    let divider-read = c .before .before .before .before .before .before .divider .ensures in
-    let pc-read = c .before .before .before .before .before .before .before .pc .ensures in
-    simp (c .cost .ensures, c .before .kind .ensures, t-out, last-pins, count1, count0, divider-read, pc-read)
+    let t-out = c .before .before .before .tout .ensures in
+    let last-pins = c .before .before .before .before .last3 .ensures in
+    let count1 = c .before .before .before .before .before .t1 .ensures in
+    let count0 = c .before .before .before .before .before .before .t0 .ensures in
+    let divider-read = c .before .before .before .before .before .before .before .divider .ensures in
+    let pc-read = c .before .before .before .before .before .before .before .before .pc .ensures in
+    simp (c .port .ensures, c .before .cost .ensures, c .before .before .kind .ensures, t-out, last-pins, count1, count0, divider-read, pc-read)
 
 pub machine-of-spec : {M : Type 1} → statement M
 machine-of-spec =
@@ -48,4 +51,5 @@ machine-of-spec =
     tout-requires
     kind-requires
     cost-requires
+    port-requires
     returns)
