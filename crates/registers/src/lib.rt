@@ -6,9 +6,11 @@ use lent::Rest;
 use machine::File;
 use machine::Pins;
 use machine::names;
+use serial::Port;
 use timers::Timer;
 ghost use mathlib.Core.Path.{_≡_};
 ghost use Rattle.word.specs.Fields.{lowByte};
+ghost use Rattle.machine.specs.Serial.{readSio, writeSio};
 ghost use Rattle.machine.specs.Registers.{readPort, writePort, readReg, writeReg};
 ghost use Rattle.machine.specs.ForCode.{isGeneral};
 ghost use Rattle.lent.specs.View.{machineIn};
@@ -35,6 +37,32 @@ fn write_port(regs: &mut File, rest: &Rest, a: u8, v: u8)
     machine::file::place(regs, a, after);
 }
 
+// What F0 reads: the byte received last, while the serial port is on.
+fn read_sio(regs: &File, rest: &Rest) -> u8
+    ensures { λ r. ⌜ r ≡ readSio (machineIn (now (regs .entry)) (now (rest .entry))) ⌝ }
+{
+    let mode = clock::port_mode(regs, rest);
+    let received = lent::received(rest);
+    if mode.on { received } else { 0xFF }
+}
+
+// A store to F0: a send begins, while the serial port is on.
+fn write_sio(regs: &File, rest: &mut Rest, v: u8)
+    ensures { λ _. ⌜ machineIn (now (regs .entry)) (now (rest .exit)) ≡ writeSio (machineIn (now (regs .entry)) (now (rest .entry))) v ⌝ }
+{
+    let mode = clock::port_mode(regs, rest);
+    let before = lent::port(rest);
+    if mode.on {
+        let receiver = before.receiver;
+        let transmitter = serial::sending::store(mode.parity, v);
+        let after = Port {
+            receiver,
+            transmitter,
+        };
+        lent::set_port(rest, after);
+    }
+}
+
 // R4 to R127: what a program uses most is looked at first.
 fn is_general(a: u8) -> bool
     ensures { λ r. ⌜ r ≡ isGeneral a ⌝ }
@@ -55,7 +83,8 @@ pub fn read_any(regs: &File, rest: &Rest, pins: Pins, a: u8) -> u8
 {
     match a {
         0x00..=0x03 => read_port(regs, rest, pins, a),
-        0x80..=names::SIO => 0xFF,
+        0x80..=0xEF => 0xFF,
+        names::SIO => read_sio(regs, rest),
         names::T1 => counter(lent::t1(rest)),
         names::PRE1 => 0xFF,
         names::T0 => counter(lent::t0(rest)),
@@ -84,7 +113,10 @@ pub fn write_any(regs: &mut File, rest: &mut Rest, a: u8, v: u8)
         0x00..=0x03 => {
             write_port(regs, rest, a, v);
         }
-        0x80..=names::SIO => {}
+        0x80..=0xEF => {}
+        names::SIO => {
+            write_sio(regs, rest, v);
+        }
         names::TMR => {
             clock::write_tmr(regs, rest, v);
         }
