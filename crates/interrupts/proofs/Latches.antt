@@ -1,19 +1,38 @@
--- What edges latch keeps IRQ's bits 6 and 7 clear.
-use mathlib.Core.Bool.{Bool}
+-- What edges latch keeps IRQ's bits 6 and 7 clear, and what they start keeps the serial port legal.
+use mathlib.Core.Bool.{Bool, not, _&&_}
 use Prim.Native.Nat.{ℕ, _<_}
 use native.Mathlib.Omega.{arith}
 use Rattle.word.proofs.Computed.{by-test}
-use Rattle.timers.proofs.Latched.{latch-legal}
-use Rattle.interrupts.specs.Edges.{fell, latchedIf, latchedBy}
+use Rattle.serial.specs.Port.{LegalPort}
+use Rattle.serial.specs.declared.Port.{Port}
+use Rattle.serial.proofs.Theorems.{started-legal}
+use Rattle.timers.specs.Clock.{LegalMoving}
+use Rattle.timers.specs.declared.Moving.{Moving}
+use Rattle.timers.proofs.Latched.{if-legal}
+use Rattle.interrupts.specs.Edges.{fell, latchedBy, startedBy, withEdges}
 
-latched-legal : (edge : Bool) (n irq : ℕ) → n < 6 → irq < 64 → latchedIf edge n irq < 64
-unfolding latchedIf
-latched-legal edge n irq h l = by-test (λ (x : ℕ). x < 64) edge (λ t. latch-legal n irq h l) (λ t. l)
+module _ (on : Bool) (last given : ℕ) where
+  latches-legal : (irq : ℕ) → irq < 64 → latchedBy on last given irq < 64
+  unfolding latchedBy
+  latches-legal irq l =
+      if-legal (fell 0 last given && not on) 3 _ (omega arith)
+      (if-legal (fell 1 last given) 2 _ (omega arith)
+      (if-legal (fell 3 last given) 1 _ (omega arith)
+      (if-legal (fell 2 last given) 0 irq (omega arith) l)))
 
-pub edges-latch-legal : (last given irq : ℕ) → irq < 64 → latchedBy last given irq < 64
-unfolding latchedBy
-edges-latch-legal last given irq l =
-    latched-legal (fell 0 last given) 3 _ (omega arith)
-    (latched-legal (fell 1 last given) 2 _ (omega arith)
-    (latched-legal (fell 3 last given) 1 _ (omega arith)
-    (latched-legal (fell 2 last given) 0 irq (omega arith) l)))
+  starts-legal : (p : Port) → LegalPort p → LegalPort (startedBy on last given p)
+  unfolding startedBy
+  starts-legal p l =
+      by-test LegalPort (fell 0 last given && on)
+      (λ t. record { legal-receiver = started-legal (p .receiver) (l .legal-receiver); legal-transmitter = l .legal-transmitter })
+      (λ t. l)
+
+  pub edges-legal-moving : {x : Moving} → LegalMoving x → LegalMoving (withEdges on last given x)
+  edges-legal-moving l =
+      record {
+        divider-high = l .divider-high;
+        counting0 = l .counting0;
+        counting1 = l .counting1;
+        irq-high = latches-legal _ (l .irq-high);
+        port-legal = starts-legal _ (l .port-legal);
+      }

@@ -16,7 +16,9 @@ use Rattle.timers.proofs.Legal.{edge-legal}
 use Rattle.timers.proofs.Theorems.{edge-within}
 use Rattle.machine.specs.State.{held, placed, withPc}
 use Rattle.machine.specs.Clock.{controlOf, movingOf}
+use Rattle.machine.specs.Serial.{portMode}
 use Rattle.machine.specs.Legal.{Legal}
+use Rattle.serial.specs.declared.Mode.{Mode}
 use Rattle.machine.specs.declared.Machine.{Machine}
 use Rattle.machine.specs.declared.Bytes.the-variants.{Three}
 use Rattle.machine.proofs.Legal.{irq-fits, placed-legal, pc-legal, last3-legal, moved-legal, setting-of, pushed-legal, program-byte}
@@ -25,27 +27,19 @@ use Rattle.deeds.specs.Modes.{flagsOf}
 use Rattle.deeds.proofs.Fits.{AllRead}
 use Rattle.execute.specs.Doing.{interruptsTo}
 use Rattle.execute.proofs.Legal.{FitStores, interrupts-legal, pushed-fits}
-use Rattle.interrupts.specs.Edges.{fell, latchedBy, withIrq, movedByEdges, comparedOf}
+use Rattle.interrupts.specs.Edges.{fell, movedByEdges, comparedOf}
 use Rattle.interrupts.specs.Entry.{cleared, vectorOf, acknowledged, enteredOf}
-use Rattle.interrupts.proofs.Latches.{edges-latch-legal}
-
--- what edges latch
-latched-moving : {m : Machine} (given : ℕ) → Legal m → LegalMoving (withIrq (movingOf m) (latchedBy (m .last3) given (movingOf m .lines .irq)))
-latched-moving {m} given l =
-    let x = l .moving in
-    record {
-      divider-high = x .divider-high;
-      counting0 = x .counting0;
-      counting1 = x .counting1;
-      irq-high = edges-latch-legal (m .last3) given (movingOf m .lines .irq) (x .irq-high);
-    }
+use Rattle.interrupts.proofs.Latches.{edges-legal-moving}
 
 edges-legal : {m : Machine} (given : ℕ) → Legal m → LegalMoving (movedByEdges m given .moving)
 unfolding movedByEdges
 edges-legal {m} given l =
     by-test (λ (x : Spanned). LegalMoving (x .moving)) (fell 1 (m .last3) given)
-    (λ t. edge-legal (settingOf (controlOf m)) (setting-of l) _ (latched-moving given l))
-    (λ t. latched-moving given l)
+    (λ t. edge-legal (settingOf (controlOf m)) (setting-of l) _ latched)
+    (λ t. latched)
+  where
+    latched : LegalMoving _
+    latched = edges-legal-moving (portMode m .on) (m .last3) given (l .moving)
 
 pub compared-legal : {m : Machine} (given : ℕ) → Legal m → given < 256 → Legal (comparedOf m given .machine)
 unfolding comparedOf

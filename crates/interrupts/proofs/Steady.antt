@@ -8,12 +8,13 @@ use lib.Dec.{eqb}
 use lib.ListN.{length}
 use Rattle.word.specs.Fields.{isSet}
 use Rattle.word.proofs.Computed.{agree, agree3}
+use Rattle.timers.specs.Requests.{latchedIf}
 use Rattle.timers.specs.Clock.{begun}
 use Rattle.machine.specs.State.{held, placed, withLast3}
 use Rattle.machine.specs.Clock.{movingOf, movedTo, countsAt}
 use Rattle.machine.specs.declared.Machine.{Machine}
 use Rattle.machine.proofs.Lens.{put-own, put-irq, put-other}
-use Rattle.interrupts.specs.Edges.{Comparison, fell, latchedIf, latchedBy, movedByEdges, comparedOf}
+use Rattle.interrupts.specs.Edges.{Comparison, fell, latchedBy, startedBy, movedByEdges, comparedOf}
 use Rattle.interrupts.specs.ForCode.{anyFell}
 
 -- the four pins are the lower four bits
@@ -44,7 +45,7 @@ none-fell last given e n h =
 
 -- so comparing the pins moves nothing, and makes them the last
 nothing-moved : (m : Machine) (given : ℕ) → anyFell (m .last3) given ≡ false → movedByEdges m given ≡ begun (movingOf m)
-unfolding movedByEdges latchedBy latchedIf
+unfolding movedByEdges latchedBy latchedIf startedBy
 nothing-moved m given e =
     rw (
       none-fell (m .last3) given e 0 (omega arith),

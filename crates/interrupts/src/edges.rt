@@ -2,6 +2,7 @@
 use lent::Rest;
 use machine::File;
 use machine::names;
+use serial::Port;
 use timers::Lines;
 use timers::Spanned;
 ghost use mathlib.Core.Path.{_≡_};
@@ -10,7 +11,7 @@ ghost use Rattle.machine.specs.Names.{IRQ};
 ghost use Rattle.machine.specs.State.{held};
 ghost use Rattle.machine.specs.Legal.{Legal};
 ghost use Rattle.lent.specs.View.{machineIn};
-ghost use Rattle.interrupts.specs.Edges.{fell, latchedIf, latchedBy, movedByEdges, comparedOf};
+ghost use Rattle.interrupts.specs.Edges.{fell, latchedBy, startedBy, movedByEdges, comparedOf};
 ghost use Rattle.interrupts.specs.ForCode.{comparison, anyFell};
 
 // Whether any of P30 to P33 fell.
@@ -30,30 +31,35 @@ fn fell(n: u8, last: u8, given: u8) -> bool
     was & !is
 }
 
-// Request n latched, where there was an edge.
-fn latched_if(edge: bool, n: u8, irq: u8) -> u8
-    requires { ⌜ n < 6 ⌝ }
-    ensures { λ r. ⌜ r ≡ latchedIf edge n irq ⌝ }
-{
-    if edge {
-        timers::requests::latch(n, irq)
-    } else {
-        irq
-    }
-}
-
-// IRQ after the edges.
-fn latched_by(last: u8, given: u8, irq: u8) -> u8
-    ensures { λ r. ⌜ r ≡ latchedBy last given irq ⌝ }
+// IRQ after the edges, the serial port being on or off.
+fn latched_by(on: bool, last: u8, given: u8, irq: u8) -> u8
+    ensures { λ r. ⌜ r ≡ latchedBy on last given irq ⌝ }
 {
     let p32 = fell(2, last, given);
     let p33 = fell(3, last, given);
     let p31 = fell(1, last, given);
     let p30 = fell(0, last, given);
-    let irq0 = latched_if(p32, 0, irq);
-    let irq1 = latched_if(p33, 1, irq0);
-    let irq2 = latched_if(p31, 2, irq1);
-    latched_if(p30, 3, irq2)
+    let irq0 = timers::requests::latched_if(p32, 0, irq);
+    let irq1 = timers::requests::latched_if(p33, 1, irq0);
+    let irq2 = timers::requests::latched_if(p31, 2, irq1);
+    timers::requests::latched_if(p30 & !on, 3, irq2)
+}
+
+// The serial port after the edges.
+fn started_by(on: bool, last: u8, given: u8, p: Port) -> Port
+    ensures { λ r. ⌜ r ≡ startedBy on last given p ⌝ }
+{
+    let p30 = fell(0, last, given);
+    if p30 & on {
+        let before = p.receiver;
+        let transmitter = p.transmitter;
+        let receiver = serial::receiving::start(before);
+        return Port {
+            receiver,
+            transmitter,
+        };
+    }
+    p
 }
 
 // What the edges move.
@@ -64,12 +70,16 @@ fn moved(regs: &File, rest: &Rest, given: u8) -> Spanned
     let last = lent::last3(rest);
     let c = clock::control_of(regs, rest);
     let m = clock::moving_of(regs, rest);
+    let mode = clock::port_mode(regs, rest);
     let old = m.lines;
-    let irq = latched_by(last, given, old.irq);
+    let line = old.port;
+    let irq = latched_by(mode.on, last, given, old.irq);
+    let port = started_by(mode.on, last, given, line);
     let p31 = fell(1, last, given);
     let lines = Lines {
         irq,
         tout: old.tout,
+        port,
     };
     let mut latched = m;
     latched.lines = lines;

@@ -27,7 +27,7 @@ refusedOpcode = 5
 abbrev pub refusedMachine : ℕ
 refusedMachine = 6
 
--- "saved machine not 268 bytes"
+-- "saved machine not 268 bytes", 276 since 02, C-11
 abbrev pub refusedLength : ℕ
 refusedLength = 7
 
@@ -41,9 +41,9 @@ refusedInstruction = 8
 abbrev pub fileLength : ℕ
 fileLength = 256
 
--- "a saved machine of 268 bytes"
+-- "a saved machine of 268 bytes", which "grows by the port's state" by eight (02, C-11)
 abbrev pub savedLength : ℕ
-savedLength = 268
+savedLength = 276
 
 -- the most bytes of a program image and of a data memory, the most cycles of a run's budget: over these 1, 2 and 4
 abbrev pub imageMost : ℕ
@@ -58,10 +58,10 @@ budgetMost = 1000000
 -- ---- this library's version, as include/z8.h and CHANGELOG.md have it
 
 abbrev pub versionMajor : ℕ
-versionMajor = 1
+versionMajor = 2
 
 abbrev pub versionMinor : ℕ
-versionMinor = 1
+versionMinor = 0
 
 abbrev pub versionPatch : ℕ
 versionPatch = 0

@@ -20,10 +20,10 @@ pub const REFUSED_LENGTH: u8 = 7;
 
 pub const REFUSED_INSTRUCTION: u8 = 8;
 
-// The places of a register file, and the bytes of a saved machine: these places, and twelve bytes more.
+// The places of a register file, and the bytes of a saved machine: these places, twelve bytes more, and eight of the serial port.
 pub const FILE_LENGTH: usize = 256;
 
-pub const SAVED_LENGTH: usize = 268;
+pub const SAVED_LENGTH: usize = 276;
 
 // The most bytes of a program image, and of a data memory.
 pub const IMAGE_MOST: usize = 65536;
@@ -31,9 +31,9 @@ pub const IMAGE_MOST: usize = 65536;
 pub const DATA_MOST: usize = 65536;
 
 // The library's version, as include/z8.h and CHANGELOG.md have it.
-pub const VERSION_MAJOR: u32 = 1;
+pub const VERSION_MAJOR: u32 = 2;
 
-pub const VERSION_MINOR: u32 = 1;
+pub const VERSION_MINOR: u32 = 0;
 
 pub const VERSION_PATCH: u32 = 0;
 

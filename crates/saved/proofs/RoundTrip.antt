@@ -1,4 +1,4 @@
--- A legal 268 bytes loads to a legal machine whose saved form is those bytes, and a legal machine's saved form is legal and loads to it.
+-- A legal 276 bytes loads to a legal machine whose saved form is those bytes, and a legal machine's saved form is legal and loads to it.
 use mathlib.Core.Path.{_≡_, _∙_, refl, sym, ap}
 use mathlib.Core.Bool.{Bool, true, false, _&&_}
 use mathlib.Core.List.{List, [], _∷_, _++_}
@@ -14,6 +14,9 @@ use Rattle.numbers.specs.Numbers.{refusedMachine, refusedLength, savedLength}
 use Rattle.word.specs.Choose.{pick, oneIf}
 use Rattle.word.specs.Fields.{bitOf, lower, wordOf, highByte, lowByte}
 use Rattle.word.proofs.Computed.{by-test, agree, and-left, and-right}
+use Rattle.serial.specs.Transmitter.{transmitterFits}
+use Rattle.serial.specs.Receiver.{receiverFits}
+use Rattle.serial.proofs.Tested.{legal-fits, fits-legal, receiver-fits, fits-receiver}
 use Rattle.timers.specs.Control.{orHighest}
 use Rattle.machine.specs.State.{heldIn}
 use Rattle.machine.specs.Clock.{movingOf}
@@ -22,7 +25,7 @@ use Rattle.machine.specs.Start.{isKind, isCost}
 use Rattle.machine.specs.Legal.{mayHold, LegalFile, Legal}
 use Rattle.machine.specs.declared.Machine.{Machine}
 use Rattle.machine.proofs.Legal.{zero-may, irq-small}
-use Rattle.saved.specs.Saved.{byte, timerOf, machineOf, restOf, savedOf, countsFit, ownFit, zeros, holesEmpty, bitsClear, legalOf, firstOf, legalRefusal, refusalOf, lengthRefusal}
+use Rattle.saved.specs.Saved.{byte, timerOf, portOf, portFits, machineOf, restOf, savedOf, countsFit, ownFit, zeros, holesEmpty, bitsClear, legalOf, firstOf, legalRefusal, refusalOf, lengthRefusal}
 use Rattle.saved.specs.ForCode.{loadOf}
 
 -- what is not refused with 7 is as long as a saved machine
@@ -95,23 +98,30 @@ level-again : (b : Bool) → eqb (oneIf b) 1 ≡ b
 level-again true = refl
 level-again false = refl
 
--- ---- what a legal 268 bytes say
+-- ---- what a legal 276 bytes say
 both : (a b : Bool) → T a → T b → T (a && b)
 both true b t u = u
 both false b t u = absurd t
 
+all-three : (a b c : Bool) → T a → T b → T c → T (a && b && c)
+all-three a b c t u v = both (a && b) c (both a b t u) v
+
 all-four : (a b c d : Bool) → T a → T b → T c → T d → T (a && b && c && d)
-all-four a b c d t u v w = both (a && b && c) d (both (a && b) c (both a b t u) v) w
+all-four a b c d t u v w = both (a && b && c) d (all-three a b c t u v) w
 
 all-five : (a b c d e : Bool) → T a → T b → T c → T d → T e → T (a && b && c && d && e)
 all-five a b c d e t u v w x = both (a && b && c && d) e (all-four a b c d t u v w) x
 
 -- tests that all pass, one by one
+three : (a b c : Bool) → T (a && b && c) → T a × (T b × T c)
+three a b c t =
+    let ab = and-left (a && b) c t in
+    (and-left a b ab, (and-right a b ab, and-right (a && b) c t))
+
 four : (a b c d : Bool) → T (a && b && c && d) → T a × (T b × (T c × T d))
 four a b c d t =
-    let abc = and-left (a && b && c) d t in
-    let ab = and-left (a && b) c abc in
-    (and-left a b ab, (and-right a b ab, (and-right (a && b) c abc, and-right (a && b && c) d t)))
+    let f = three a b c (and-left (a && b && c) d t) in
+    (f .0, (f .1 .0, (f .1 .1, and-right (a && b && c) d t)))
 
 five : (a b c d e : Bool) → T (a && b && c && d && e) → T a × (T b × (T c × (T d × T e)))
 five a b c d e t =
@@ -129,22 +139,27 @@ pub record Facts (s : List ℕ) : Type 0 where
   pub kind : T (isKind (byte s 265))
   pub spare : byte s 267 ≡ 0
   pub holes : T (holesEmpty s)
+  pub receiver : T (receiverFits (portOf s .receiver))
+  pub transmitter : T (transmitterFits (portOf s .transmitter))
+  pub port-spare : byte s 275 ≡ 0
   pub tmr : T (eqb (bitOf 0 (byte s 0xF1)) 0 && eqb (bitOf 2 (byte s 0xF1)) 0)
   pub irq : T (eqb (bitOf 6 (byte s 0xFA)) 0 && eqb (bitOf 7 (byte s 0xFA)) 0)
   pub rp : T (eqb (lower (byte s 0xFD)) 0)
 
 facts : (s : List ℕ) → T (legalOf s) → Facts s
-unfolding legalOf countsFit ownFit bitsClear
+unfolding legalOf countsFit ownFit bitsClear portFits
 facts s t =
     let tmr = byte s 0xF1 in
     let irq = byte s 0xFA in
     let parts =
-    four
+    five
     (countsFit (byte s 258) (byte s 259) (byte s 261))
     (ownFit (byte s 266) (byte s 264) (byte s 265) (byte s 267))
     (holesEmpty s)
     (bitsClear tmr irq (byte s 0xFD))
+    (portFits (portOf s) (byte s 275))
     t in
+    let p = three (receiverFits (portOf s .receiver)) (transmitterFits (portOf s .transmitter)) (eqb (byte s 275) 0) (parts .1 .1 .1 .1) in
     let c = five (leb (byte s 258) 3) (leb 1 (byte s 259)) (leb (byte s 259) 64) (leb 1 (byte s 261)) (leb (byte s 261) 64) (parts .0) in
     let o = four (isCost (byte s 266)) (leb (byte s 264) 1) (isKind (byte s 265)) (eqb (byte s 267) 0) (parts .1 .0) in
     let b =
@@ -154,7 +169,7 @@ facts s t =
     (eqb (bitOf 6 irq) 0)
     (eqb (bitOf 7 irq) 0)
     (eqb (lower (byte s 0xFD)) 0)
-    (parts .1 .1 .1) in
+    (parts .1 .1 .1 .0) in
     record {
       divider = leb→le (byte s 258) 3 (c .0);
       prescaler0-low = leb→le 1 (byte s 259) (c .1 .0);
@@ -166,6 +181,9 @@ facts s t =
       kind = o .1 .1 .0;
       spare = eqb→eq (byte s 267) 0 (o .1 .1 .1);
       holes = parts .1 .1 .0;
+      receiver = p .0;
+      transmitter = p .1 .0;
+      port-spare = eqb→eq (byte s 275) 0 (p .1 .1);
       tmr = both (eqb (bitOf 0 tmr) 0) (eqb (bitOf 2 tmr) 0) (b .0) (b .1 .0);
       irq = both (eqb (bitOf 6 irq) 0) (eqb (bitOf 7 irq) 0) (b .1 .1 .0) (b .1 .1 .1 .0);
       rp = b .1 .1 .1 .1;
@@ -231,7 +249,7 @@ module _ (s : List ℕ) (long : length s ≡ savedLength) (bytes : (i : ℕ) →
   )
 
   pub legal-loads : Legal (machineOf s)
-  unfolding machineOf timerOf movingOf
+  unfolding machineOf timerOf portOf movingOf
   legal-loads =
       let file = file-legal in
       let c0 = counter-range (byte s 260) (bytes 260) in
@@ -247,14 +265,19 @@ module _ (s : List ℕ) (long : length s ≡ savedLength) (bytes : (i : ℕ) →
               counting1 =
                   record { prescaler-low = f .prescaler1-low; prescaler-high = f .prescaler1-high; counter-low = c1 .0; counter-high = c1 .1 };
               irq-high = irq-small _ (file .bytes 0xFA) (file .places 0xFA);
+              port-legal =
+                  record {
+                    legal-receiver = fits-receiver _ (bytes 268) (bytes 269) (f .receiver);
+                    legal-transmitter = fits-legal _ (bytes 272) (f .transmitter);
+                  };
             };
         last3-byte = bytes 263;
         kind = f .kind;
         cost = f .cost;
       }
 
-  rest-back : restOf (machineOf s) ≡ listed s 256 12
-  unfolding restOf machineOf timerOf
+  rest-back : restOf (machineOf s) ≡ listed s 256 20
+  unfolding restOf machineOf timerOf portOf
   rest-back =
       rw (
         high-back (byte s 256) (byte s 257) (bytes 257),
@@ -266,12 +289,13 @@ module _ (s : List ℕ) (long : length s ≡ savedLength) (bytes : (i : ℕ) →
         counter-back (byte s 262) (bytes 262),
         level-back (byte s 264) (f .tout),
         f .spare,
+        f .port-spare,
       )
 
   pub saved-back : savedOf (machineOf s) ≡ s
   unfolding savedOf machineOf
   saved-back =
-      ap (λ (l : List ℕ). take 256 s ++ l) (rest-back ∙ sym (rest-listed s 12 256 (sym long))) ∙ take-append-drop 256 s
+      ap (λ (l : List ℕ). take 256 s ++ l) (rest-back ∙ sym (rest-listed s 20 256 (sym long))) ∙ take-append-drop 256 s
 
 -- ---- a legal machine, saved
 module _ (m : Machine) (l : Legal m) where
@@ -297,7 +321,7 @@ module _ (m : Machine) (l : Legal m) where
   file-back = take-at (m .regs) (restOf m) 256 (l .file .long)
 
   pub loads-back : machineOf (savedOf m) ≡ m
-  unfolding machineOf timerOf restOf movingOf
+  unfolding machineOf timerOf portOf restOf movingOf
   loads-back =
       rw (
         file-back,
@@ -312,6 +336,13 @@ module _ (m : Machine) (l : Legal m) where
         back 8,
         back 9,
         back 10,
+        back 12,
+        back 13,
+        back 14,
+        back 15,
+        back 16,
+        back 17,
+        back 18,
         word-back (m .pc),
         low-of (m .divider) (omega (arith, l .moving .divider-high)),
         low-of (m .t0 .prescaler) (l .moving .counting0 .prescaler-high),
@@ -383,18 +414,30 @@ module _ (m : Machine) (l : Legal m) where
       (and-right (eqb (bitOf 6 irq) 0) (eqb (bitOf 7 irq) 0) irq-may)
       (l .file .places 0xFD))
 
+  port-saved : T (portFits (portOf (savedOf m)) (byte (savedOf m) 275))
+  unfolding portFits portOf restOf movingOf
+  port-saved =
+      let legal = l .moving .port-legal in
+      rw (back 12, back 13, back 14, back 15, back 16, back 17, back 18, back 19)
+      (all-three (receiverFits (m .port .receiver)) (transmitterFits (m .port .transmitter)) true
+      (receiver-fits (m .port .receiver) (legal .legal-receiver))
+      (legal-fits (m .port .transmitter) (legal .legal-transmitter))
+      tt)
+
   pub legal-saves : T (legalOf (savedOf m))
   unfolding legalOf
   legal-saves =
-      all-four
+      all-five
       (countsFit (byte (savedOf m) 258) (byte (savedOf m) 259) (byte (savedOf m) 261))
       (ownFit (byte (savedOf m) 266) (byte (savedOf m) 264) (byte (savedOf m) 265) (byte (savedOf m) 267))
       (holesEmpty (savedOf m))
       (bitsClear (byte (savedOf m) 0xF1) (byte (savedOf m) 0xFA) (byte (savedOf m) 0xFD))
+      (portFits (portOf (savedOf m)) (byte (savedOf m) 275))
       counts-saved
       own-saved
       holes-saved
       bits-saved
+      port-saved
 
 -- bytes that are not refused load to a legal machine, whose saved form they are
 pub bytes-and-back : (s : List ℕ) → ((i : ℕ) → byte s i < 256) → refusalOf s ≡ 0
@@ -405,7 +448,7 @@ bytes-and-back s bytes e =
     let f = facts s (loads-legal s e) in
     (legal-loads s long bytes f, rw e, saved-back s long bytes f)
 
--- and a legal machine's saved form is 268 bytes, is not refused and loads to it
+-- and a legal machine's saved form is 276 bytes, is not refused and loads to it
 pub machine-and-back : (m : Machine) → Legal m
     → (length (savedOf m) ≡ savedLength) × (refusalOf (savedOf m) ≡ 0) × (loadOf (savedOf m) ≡ record { refusal = 0; machine = m })
 unfolding refusalOf loadOf

@@ -1,4 +1,4 @@
--- A machine as 268 bytes, and which bytes are a machine (01 "Numbers the encoder sees").
+-- A machine as 276 bytes, and which bytes are a machine (01 "Numbers the encoder sees"; 02, C-11).
 use mathlib.Core.Bool.{Bool, true, _&&_}
 use mathlib.Core.List.{List, [], _∷_, _++_}
 use Prim.Native.Nat.{ℕ, zero, suc, _+_}
@@ -7,6 +7,9 @@ use lib.ListN.{getD, length, take}
 use Rattle.numbers.specs.Numbers.{refusedMachine, refusedLength, fileLength, savedLength}
 use Rattle.word.specs.Choose.{pick, oneIf}
 use Rattle.word.specs.Fields.{bitOf, lower, wordOf, highByte, lowByte}
+use Rattle.serial.specs.Receiver.{receiverFits}
+use Rattle.serial.specs.Transmitter.{transmitterFits}
+use Rattle.serial.specs.declared.Port.{Port}
 use Rattle.timers.specs.Control.{orHighest}
 use Rattle.timers.specs.declared.Timer.{Timer}
 use Rattle.machine.specs.Names.{TMR, IRQ, RP}
@@ -21,9 +24,19 @@ byte s i = getD s i 0
 unfoldable pub timerOf : ℕ → ℕ → Timer
 timerOf prescaler counter = record { prescaler = prescaler; counter = orHighest 256 counter }
 
+-- "The saved machine grows by the port's state" (02, C-11): 268 the received byte; 269 the receiver's shift register; 270 what the receiver
+-- waits for; 271 T0's ends since its last shift clock, or since the start edge; 272 the transmitter's eight bits; 273 what is on P37; 274 T0's
+-- ends since this bit began
+unfoldable pub portOf : List ℕ → Port
+portOf s =
+    record {
+      receiver = record { received = byte s 268; shift = byte s 269; awaited = byte s 270; ends = byte s 271 };
+      transmitter = record { bits = byte s 272; place = byte s 273; ends = byte s 274 };
+    }
+
 -- "0 to 255 the register file in address order; 256 and 257 the program counter, high byte first; 258 the divider; 259 and 260 T0's
 -- prescaler and counter; 261 and 262 T1's; 263 the last Port 3 pins; 264 the T_OUT level; 265 the type (1 or 11); 266 the interrupt
--- entry cost; 267 zero."
+-- entry cost; 267 zero." And the serial port, with 275 zero.
 unfoldable pub machineOf : List ℕ → Machine
 machineOf s =
     record {
@@ -36,6 +49,7 @@ machineOf s =
       tout = eqb (byte s 264) 1;
       kind = byte s 265;
       cost = byte s 266;
+      port = portOf s;
     }
 
 -- the same the other way, the low byte of each number: of a legal machine the number itself, but 0 for a counter of 256
@@ -52,6 +66,14 @@ restOf m =
     ∷ oneIf (m .tout)
     ∷ m .kind
     ∷ m .cost
+    ∷ 0
+    ∷ m .port .receiver .received
+    ∷ m .port .receiver .shift
+    ∷ m .port .receiver .awaited
+    ∷ m .port .receiver .ends
+    ∷ m .port .transmitter .bits
+    ∷ m .port .transmitter .place
+    ∷ m .port .transmitter .ends
     ∷ 0
     ∷ []
 
@@ -78,12 +100,17 @@ holesEmpty s = zeros s 0x80 113
 unfoldable pub bitsClear : ℕ → ℕ → ℕ → Bool
 bitsClear tmr irq rp = eqb (bitOf 0 tmr) 0 && eqb (bitOf 2 tmr) 0 && eqb (bitOf 6 irq) 0 && eqb (bitOf 7 irq) 0 && eqb (lower rp) 0
 
+-- the serial port's bytes within what `receiverFits` and `transmitterFits` say, and byte 275 zero
+unfoldable pub portFits : Port → ℕ → Bool
+portFits p spare = receiverFits (p .receiver) && transmitterFits (p .transmitter) && eqb spare 0
+
 unfoldable pub legalOf : List ℕ → Bool
 legalOf s =
     countsFit (byte s 258) (byte s 259) (byte s 261)
     && ownFit (byte s 266) (byte s 264) (byte s 265) (byte s 267)
     && holesEmpty s
     && bitsClear (byte s TMR) (byte s IRQ) (byte s RP)
+    && portFits (portOf s) (byte s 275)
 
 -- "The first that applies, tested in the order 7, 6, 1, 2, 3, 4, 5, 8, among those that the call can meet." Whoever refuses lists its tests
 -- in this order; a test that doesn't apply is 0.
@@ -91,7 +118,7 @@ abbrev pub firstOf : List ℕ → ℕ
 firstOf [] = 0
 firstOf (n ∷ ns) = pick (eqb n 0) (firstOf ns) n
 
--- "saved machine not 268 bytes"
+-- "saved machine not 268 bytes", 276 since 02, C-11
 abbrev pub lengthRefusal : List ℕ → ℕ
 lengthRefusal s = pick (eqb (length s) savedLength) 0 refusedLength
 

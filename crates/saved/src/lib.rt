@@ -1,14 +1,17 @@
-// A machine as 268 bytes, and back (01 "Numbers the encoder sees").
+// A machine as 276 bytes, and back (01 "Numbers the encoder sees"; 02, C-11).
 ghost use mathlib.Core.Path.{_≡_};
 ghost use lib.ListN.{length, take};
 ghost use Rattle.numbers.specs.Numbers.{fileLength, savedLength};
 ghost use Rattle.word.specs.Fields.{lowByte};
 ghost use Rattle.machine.specs.Legal.{Legal};
-ghost use Rattle.saved.specs.Saved.{timerOf, restOf, machineOf, savedOf, countsFit, ownFit, holesEmpty, bitsClear, legalOf, lengthRefusal, refusalOf};
+ghost use Rattle.saved.specs.Saved.{timerOf, portOf, portFits, restOf, machineOf, savedOf, countsFit, ownFit, holesEmpty, bitsClear, legalOf, lengthRefusal, refusalOf};
 ghost use Rattle.saved.specs.ForCode.{loadOf};
 use machine::File;
 use machine::Machine;
 use machine::names;
+use serial::Port;
+use serial::Receiver;
+use serial::Transmitter;
 use timers::Timer;
 
 // What a saved machine loads to: a refusal's number, 7 or 6, or 0 and the machine. (A refused answer holds the standard machine, as it
@@ -58,6 +61,27 @@ fn timer_of(prescaler: u8, counter: u8) -> Timer
     }
 }
 
+fn port_of(saved: &[u8]) -> Port
+    requires { ⌜ length (now saved) ≡ savedLength ⌝ }
+    ensures { λ p. ⌜ p ≡ portOf (now (saved .entry)) ⌝ }
+{
+    let receiver = Receiver {
+        received: saved[268],
+        shift: saved[269],
+        awaited: saved[270],
+        ends: saved[271],
+    };
+    let transmitter = Transmitter {
+        bits: saved[272],
+        place: saved[273],
+        ends: saved[274],
+    };
+    Port {
+        receiver,
+        transmitter,
+    }
+}
+
 fn machine_of(saved: &[u8]) -> Machine
     requires { ⌜ length (now saved) ≡ savedLength ⌝ }
     ensures { λ m. ⌜ m ≡ machineOf (now (saved .entry)) ⌝ }
@@ -67,6 +91,7 @@ fn machine_of(saved: &[u8]) -> Machine
     let divider = wide(saved[258]);
     let t0 = timer_of(saved[259], saved[260]);
     let t1 = timer_of(saved[261], saved[262]);
+    let port = port_of(saved);
     Machine {
         regs,
         pc,
@@ -77,6 +102,7 @@ fn machine_of(saved: &[u8]) -> Machine
         tout: saved[264] == 1,
         kind: saved[265],
         cost: saved[266],
+        port,
     }
 }
 
@@ -127,6 +153,17 @@ fn bits_clear(tmr: u8, irq: u8, rp: u8) -> bool
     (load0 == 0) & (load1 == 0) & (request6 == 0) & (request7 == 0) & (low == 0)
 }
 
+// The serial port's bytes, and byte 275 zero.
+fn port_fits(p: Port, spare: u8) -> bool
+    ensures { λ r. ⌜ r ≡ portFits p spare ⌝ }
+{
+    let receiver = p.receiver;
+    let transmitter = p.transmitter;
+    let hears = serial::receiving::fits(receiver);
+    let sends = serial::sending::fits(transmitter);
+    hears & sends & (spare == 0)
+}
+
 fn is_legal(saved: &[u8]) -> bool
     requires { ⌜ length (now saved) ≡ savedLength ⌝ }
     ensures { λ r. ⌜ r ≡ legalOf (now (saved .entry)) ⌝ }
@@ -139,7 +176,9 @@ fn is_legal(saved: &[u8]) -> bool
         saved[names::IRQ as usize],
         saved[names::RP as usize],
     );
-    counts & own & holes & bits
+    let port = port_of(saved);
+    let serial = port_fits(port, saved[275]);
+    counts & own & holes & bits & serial
 }
 
 // 7 where these aren't as many bytes as a saved machine has, or else 0.
@@ -191,12 +230,15 @@ fn low(n: u32) -> u8
     (n % 256) as u8
 }
 
-// The last twelve bytes.
-fn rest_of(m: Machine) -> [u8; 12]
+// The last twenty bytes.
+fn rest_of(m: Machine) -> [u8; 20]
     ensures { λ r. ⌜ r ≡ restOf m ⌝ }
 {
     let t0 = m.t0;
     let t1 = m.t1;
+    let port = m.port;
+    let receiver = port.receiver;
+    let transmitter = port.transmitter;
     let pc_high = word::high_byte(m.pc);
     let pc_low = word::low_byte(m.pc);
     let divider = low(m.divider);
@@ -218,10 +260,18 @@ fn rest_of(m: Machine) -> [u8; 12]
         m.kind,
         m.cost,
         0,
+        receiver.received,
+        receiver.shift,
+        receiver.awaited,
+        receiver.ends,
+        transmitter.bits,
+        transmitter.place,
+        transmitter.ends,
+        0,
     ]
 }
 
-// A machine into its 268 bytes.
+// A machine into its 276 bytes.
 pub fn save(saved: &mut [u8], m: Machine)
     requires { ⌜ length (now saved) ≡ savedLength ⌝ }
     ensures { λ _. ⌜ now (saved .exit) ≡ savedOf m ⌝ }

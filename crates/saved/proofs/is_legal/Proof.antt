@@ -54,13 +54,24 @@ shared-slice-read-bits-clear-3 c = search needs
 bits-clear-requires : tie.Need-bits-clear-requires
 bits-clear-requires c κs = search needs
 
+port-of-requires : tie.Need-port-of-requires
+port-of-requires c κs = search needs
+
+shared-slice-read-port-fits : tie.Need-shared-slice-read-port-fits
+shared-slice-read-port-fits c = search needs
+
+port-fits-requires : tie.Need-port-fits-requires
+port-fits-requires c κs = search needs
+
 returns : tie.Need-returns
 unfolding legalOf
 returns c =
-    let holes : tie.After-holes-empty = c .before .before .before .before in
+    let port : tie.After-port-of = c .before .before in
+    let bits : tie.After-bits-clear = port .before in
+    let holes : tie.After-holes-empty = bits .before .before .before .before in
     let own : tie.After-own-fit = holes .before in
     let counts : tie.After-counts-fit = own .before .before .before .before .before in
-    rw (c .bits-clear .ensures, holes .holes-empty .ensures, own .own-fit .ensures, counts .counts-fit .ensures)
+    rw (c .port-fits .ensures, port .port-of .ensures, bits .bits-clear .ensures, holes .holes-empty .ensures, own .own-fit .ensures, counts .counts-fit .ensures)
 
 pub is-legal-spec : {M : Type 1} → statement M
 is-legal-spec =
@@ -83,4 +94,7 @@ is-legal-spec =
     cast-bits-clear-3
     shared-slice-read-bits-clear-3
     bits-clear-requires
+    port-of-requires
+    shared-slice-read-port-fits
+    port-fits-requires
     returns)
