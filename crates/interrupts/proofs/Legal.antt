@@ -34,12 +34,10 @@ use Rattle.interrupts.proofs.Latches.{edges-legal-moving}
 edges-legal : {m : Machine} (given : ℕ) → Legal m → LegalMoving (movedByEdges m given .moving)
 unfolding movedByEdges
 edges-legal {m} given l =
+    let latched = edges-legal-moving (portMode m .on) (m .last3) given (l .moving) in
     by-test (λ (x : Spanned). LegalMoving (x .moving)) (fell 1 (m .last3) given)
     (λ t. edge-legal (settingOf (controlOf m)) (setting-of l) _ latched)
     (λ t. latched)
-  where
-    latched : LegalMoving _
-    latched = edges-legal-moving (portMode m .on) (m .last3) given (l .moving)
 
 pub compared-legal : {m : Machine} (given : ℕ) → Legal m → given < 256 → Legal (comparedOf m given .machine)
 unfolding comparedOf

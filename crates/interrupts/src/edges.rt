@@ -51,9 +51,9 @@ fn started_by(on: bool, last: u8, given: u8, p: Port) -> Port
 {
     let p30 = fell(0, last, given);
     if p30 & on {
-        let before = p.receiver;
+        let old = p.receiver;
         let transmitter = p.transmitter;
-        let receiver = serial::receiving::start(before);
+        let receiver = serial::receiving::start(old);
         return Port {
             receiver,
             transmitter,
