@@ -310,7 +310,7 @@ all-placed (p ∷ ps) t f =
     (ltb→lt (p .byte) 256 (and-left (ltb (p .byte) 256) (mayHold (p .address) (p .byte)) more))
     (and-right (ltb (p .byte) 256) (mayHold (p .address) (p .byte)) more))
 
-resting-legal : LegalPort restingPort
+pub resting-legal : LegalPort restingPort
 resting-legal = record { legal-receiver = waiting-legal 0 (lit< tt); legal-transmitter = idle-legal }
 
 -- a legal file, a type and an entry cost make a legal machine

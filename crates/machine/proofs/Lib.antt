@@ -5,4 +5,5 @@ pub mod Ranges
 pub mod Lens
 pub mod Whole
 pub mod Legal
+pub mod SerialSpan
 pub mod Theorems

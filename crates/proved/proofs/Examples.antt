@@ -14,16 +14,17 @@ use Rattle.alu.specs.Rotate.{rlOf, sraOf, rotateFlags}
 use Rattle.alu.specs.Decimal.{daOf, byRows, adjustedBy, afterAddition, afterSubtraction}
 use Rattle.alu.specs.Conditions.{holdsOf}
 use Rattle.word.specs.Iter.{iter}
-use Rattle.timers.specs.Requests.{latch}
-use Rattle.timers.specs.Control.{orHighest, setupOf, dividerMovesT1, edgesMoveT1, settingOf, kept}
+use Rattle.timers.specs.Requests.{latch, latchedIf}
+use Rattle.timers.specs.Control.{orHighest, setupOf, dividerMovesT1, edgesMoveT1, modeOf, settingOf, kept}
 use Rattle.timers.specs.Timer.{tick, ticked, timerWritten}
-use Rattle.timers.specs.Clock.{endOf, tickBoth, cycle, cycles, toutWritten, written, T0, Steady, LegalMoving}
+use Rattle.timers.specs.Clock.{endOf, end0Of, tickBoth, cycle, cycles, toutWritten, written, T0, Steady, LegalMoving}
 use Rattle.timers.proofs.Formula.{formula-by-registers}
 use Rattle.opcodes.specs.Map.{entryOf, opcodeMap}
 use Rattle.opcodes.specs.Instruction.{lengthOf}
 use Rattle.opcodes.specs.Cycles.{cyclesOf, cycleMap}
 use Rattle.machine.specs.Names.{TMR}
 use Rattle.machine.specs.State.{heldIn, placedIn, held, placed, withPc, withLast3}
+use Rattle.machine.specs.Serial.{portMode}
 use Rattle.machine.specs.Registers.{readReg, writeReg}
 use Rattle.machine.specs.Addresses.{workingAt, registerAt, readPair, writePair}
 use Rattle.machine.specs.Memory.{programByte}
@@ -32,12 +33,13 @@ use Rattle.machine.specs.Clock.{Ran, controlWith, controlOf, movingOf, enabling
 use Rattle.machine.specs.Start.{resetPlaces, newOf, defaultOf}
 use Rattle.machine.specs.declared.Machine.{Machine}
 use Rattle.machine.proofs.Lens.{span-is}
+use Rattle.machine.proofs.Legal.{resting-legal}
 use Rattle.deeds.specs.Modes.{oneAt, operandsOf}
 use Rattle.deeds.specs.Results.{binaryOf, unaryOf, pairedOf}
 use Rattle.deeds.specs.Pages.{binaryDeed, unaryDeed, adjustDeed, daDeed, pairedDeed, djnzDeed, jrDeed, deedOf, outcomeOf}
 use Rattle.execute.specs.Doing.{flagged, storedAt, wordStoredAt, jumped, looped, interruptsTo, doneOf}
 use Rattle.execute.specs.Execute.{codeAt, performOf, executeAs, executeOf}
-use Rattle.interrupts.specs.Edges.{fell, latchedIf, latchedBy, movedByEdges, comparedOf}
+use Rattle.interrupts.specs.Edges.{fell, latchedBy, startedBy, movedByEdges, comparedOf}
 use Rattle.interrupts.specs.Grants.{groupA, groupB, groupC, ordered, priorities, firstStanding, granted, grantOf}
 use Rattle.interrupts.specs.Entry.{cleared, vectorOf, acknowledged, enteredOf}
 use Rattle.step.specs.Step.{grantedOr, actOn, actionOf, clockedOn, stepOf}
@@ -64,7 +66,7 @@ pub examples-hold : T (all examples)
 unfolding examples
     laid packed addOf additionOf subOf subtractionOf differenceOf incOf decwOf sumOverflow differenceOverflow andOf logicFlags
     rlOf sraOf rotateFlags daOf byRows adjustedBy afterAddition afterSubtraction holdsOf dispOf movedBy
-    iter latch orHighest setupOf dividerMovesT1 edgesMoveT1 settingOf kept tick ticked timerWritten endOf tickBoth cycle cycles
+    iter latch orHighest setupOf dividerMovesT1 edgesMoveT1 modeOf settingOf kept tick ticked timerWritten endOf end0Of tickBoth cycle cycles
     toutWritten written
     entryOf opcodeMap lengthOf cyclesOf cycleMap
     heldIn placedIn placed withPc withLast3 resetPlaces newOf defaultOf readReg writeReg workingAt registerAt readPair writePair
@@ -72,7 +74,7 @@ unfolding examples
     controlWith controlOf movingOf enabling countsAt movedTo writeTmr seen shown cycleOf spanOf
     oneAt operandsOf binaryOf unaryOf pairedOf binaryDeed unaryDeed adjustDeed daDeed pairedDeed djnzDeed jrDeed deedOf outcomeOf
     flagged storedAt wordStoredAt jumped looped interruptsTo doneOf codeAt performOf executeAs executeOf
-    fell latchedIf latchedBy movedByEdges comparedOf groupA groupB groupC ordered priorities firstStanding granted grantOf
+    fell latchedIf latchedBy portMode startedBy movedByEdges comparedOf groupA groupB groupC ordered priorities firstStanding granted grantOf
     cleared vectorOf acknowledged enteredOf grantedOr actOn actionOf clockedOn stepOf
 examples-hold =
     rw (
@@ -90,7 +92,7 @@ module _ (divider : ℕ) (low : divider < 4) where
 
   legal : LegalMoving (movingOf quickest)
   unfolding movingOf writeTmr countsAt written timerWritten kept controlWith heldIn placed placedIn resetPlaces newOf defaultOf orHighest setupOf settingOf
-  legal = record { divider-high = low; counting0 = omega arith; counting1 = omega arith; irq-high = omega arith }
+  legal = record { divider-high = low; counting0 = omega arith; counting1 = omega arith; irq-high = omega arith; port-legal = resting-legal }
 
   steady : Steady (settingOf (controlOf quickest) .t0) (movingOf quickest .t0)
   unfolding movingOf controlOf writeTmr countsAt written timerWritten kept controlWith heldIn placed placedIn resetPlaces newOf defaultOf orHighest setupOf settingOf

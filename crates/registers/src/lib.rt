@@ -52,7 +52,8 @@ fn write_sio(regs: &File, rest: &mut Rest, v: u8)
 {
     let mode = clock::port_mode(regs, rest);
     let before = lent::port(rest);
-    if mode.on {
+    let sends = mode.on;
+    if sends {
         let receiver = before.receiver;
         let transmitter = serial::sending::store(mode.parity, v);
         let after = Port {
