@@ -97,7 +97,7 @@ fn enabling(tmr: u8, on0: bool, on1: bool) -> u8
     (tmr & 0xF5) | (bit0 | bit1)
 }
 
-// The machine with these counts, this T_OUT level and this serial port; the file stays.
+// The machine with these counts and this T_OUT level; the file stays.
 fn put(regs: &File, rest: &mut Rest, x: Moving)
     ensures { λ _. ⌜ machineIn (now (regs .entry)) (now (rest .exit)) ≡ countsAt (machineIn (now (regs .entry)) (now (rest .entry))) x ⌝ }
 {
@@ -108,8 +108,6 @@ fn put(regs: &File, rest: &mut Rest, x: Moving)
     let t1 = counting1.timer;
     lent::set_counts(rest, x.divider, t0, t1);
     lent::set_tout(rest, lines.tout);
-    let port = lines.port;
-    lent::set_port(rest, port);
 }
 
 // The machine with all that cycles move as given.
@@ -119,9 +117,11 @@ pub fn move_to(regs: &mut File, rest: &mut Rest, x: Moving)
     let counting0 = x.t0;
     let counting1 = x.t1;
     let lines = x.lines;
+    let port = lines.port;
     let tmr = machine::file::held(regs, names::TMR);
     let enabled = enabling(tmr, counting0.enabled, counting1.enabled);
     put(regs, rest, x);
+    lent::set_port(rest, port);
     machine::file::place(regs, names::TMR, enabled);
     machine::file::place(regs, names::IRQ, lines.irq);
 }

@@ -10,7 +10,7 @@ use Rattle.word.specs.Fields.{isSet}
 use Rattle.word.proofs.Computed.{agree, agree3}
 use Rattle.timers.specs.Requests.{latchedIf}
 use Rattle.timers.specs.Clock.{begun}
-use Rattle.machine.specs.State.{held, placed, withLast3}
+use Rattle.machine.specs.State.{held, placed, withLast3, withPort}
 use Rattle.machine.specs.Clock.{movingOf, movedTo, countsAt}
 use Rattle.machine.specs.declared.Machine.{Machine}
 use Rattle.machine.proofs.Lens.{put-own, put-irq, put-other}
@@ -87,6 +87,6 @@ pub record Left (m n : Machine) : Type 0 where
   pub place-left : (a : ℕ) → (a ≡ 0xF1 → ⊥) → (a ≡ 0xFA → ⊥) → held n a ≡ held m a
 
 pub compared-leaves : (m : Machine) (given : ℕ) → length (m .regs) ≡ 256 → held m 0xF1 < 256 → Left m (comparedOf m given .machine)
-unfolding comparedOf withLast3 movedTo placed countsAt
+unfolding comparedOf withLast3 movedTo placed countsAt withPort
 compared-leaves m given long h =
     record { pc-left = refl; kind-left = refl; cost-left = refl; place-left = put-other m long h (movedByEdges m given .moving) }

@@ -99,7 +99,7 @@ counts-legal x l k =
             counting0 = recounted (k .counting0);
             counting1 = recounted (k .counting1);
             irq-high = l .moving .irq-high;
-            port-legal = k .port-legal;
+            port-legal = l .moving .port-legal;
           };
       last3-byte = l .last3-byte;
       kind = l .kind;
@@ -371,11 +371,11 @@ enabling-may a b x h t = (
 )
 
 pub moved-legal : {m : Machine} (x : Moving) → Legal m → LegalMoving x → Legal (movedTo m x)
-unfolding movedTo countsAt
+unfolding movedTo countsAt withPort
 moved-legal {m} x l k =
     let e = enabling-may (x .t0 .enabled) (x .t1 .enabled) (held m 0xF1) (l .file .bytes 0xF1) (l .file .places 0xF1) in
     placed-legal 0xFA (x .lines .irq)
-    (placed-legal 0xF1 (enabling (held m 0xF1) (x .t0 .enabled) (x .t1 .enabled)) (counts-legal x l k) (lit< tt) (e .0) (e .1))
+    (placed-legal 0xF1 (enabling (held m 0xF1) (x .t0 .enabled) (x .t1 .enabled)) (with-port-legal (x .lines .port) (counts-legal x l k) (k .port-legal)) (lit< tt) (e .0) (e .1))
     (lit< tt)
     (omega (arith, k .irq-high))
     (irq-fits (x .lines .irq) (k .irq-high))

@@ -15,7 +15,7 @@ use Rattle.timers.specs.declared.Setting.{Setting}
 use Rattle.timers.specs.declared.Spanned.{Spanned}
 use Rattle.timers.proofs.Cycles.{counting, few-is}
 use Rattle.timers.proofs.Theorems.{cycles-within}
-use Rattle.machine.specs.State.{placedIn, held, placed}
+use Rattle.machine.specs.State.{placedIn, held, placed, withPort}
 use Rattle.machine.specs.Clock.{Ran, controlWith, controlOf, movingOf, enabling, countsAt, movedTo, seen, shown, cycleOf, spanOf}
 use Rattle.machine.specs.declared.Machine.{Machine}
 use Rattle.machine.proofs.Places.{place-long, held-same, held-other, place-own, places-again}
@@ -69,29 +69,29 @@ module _ (m : Machine) (long : length (m .regs) ≡ 256) (tmr-byte : held m 0xF1
 
   -- the places after a put
   pub put-tmr : held (movedTo m x) 0xF1 ≡ tmr-put
-  unfolding movedTo placed countsAt
+  unfolding movedTo placed countsAt withPort
   put-tmr =
       held-other (placedIn (m .regs) 0xF1 tmr-put) 0xFA 0xF1 (x .lines .irq) (omega arith)
       ∙ held-same (m .regs) 0xF1 tmr-put long (omega arith)
 
   pub put-irq : held (movedTo m x) 0xFA ≡ x .lines .irq
-  unfolding movedTo placed countsAt
+  unfolding movedTo placed countsAt withPort
   put-irq = held-same (placedIn (m .regs) 0xF1 tmr-put) 0xFA (x .lines .irq) (place-long (m .regs) 0xF1 tmr-put ∙ long) (omega arith)
 
   pub put-other : (a : ℕ) → (a ≡ 0xF1 → ⊥) → (a ≡ 0xFA → ⊥) → held (movedTo m x) a ≡ held m a
-  unfolding movedTo placed countsAt
+  unfolding movedTo placed countsAt withPort
   put-other a n k =
       held-other (placedIn (m .regs) 0xF1 tmr-put) 0xFA a (x .lines .irq) k ∙ held-other (m .regs) 0xF1 a tmr-put n
 
   -- what was put is seen
   pub put-seen : movingOf (movedTo m x) ≡ x
-  unfolding movingOf movedTo placed countsAt
+  unfolding movingOf movedTo placed countsAt withPort
   put-seen =
       rw (put-tmr, put-irq, on0 (x .t0 .enabled) (x .t1 .enabled) _ tmr-byte, on1 (x .t0 .enabled) (x .t1 .enabled) _ tmr-byte)
 
   -- what the timers read stays
   pub put-setting : settingOf (controlOf (movedTo m x)) ≡ settingOf (controlOf m)
-  unfolding settingOf controlOf controlWith movedTo placed countsAt
+  unfolding settingOf controlOf controlWith movedTo placed countsAt withPort
   put-setting =
       rw (
         put-tmr,
@@ -106,7 +106,7 @@ module _ (m : Machine) (long : length (m .regs) ≡ 256) (tmr-byte : held m 0xF1
 
   -- the last put counts
   pub put-again : (y : Moving) → movedTo (movedTo m x) y ≡ movedTo m y
-  unfolding movedTo placed countsAt
+  unfolding movedTo placed countsAt withPort
   put-again y =
       rw (
         put-tmr,
@@ -116,15 +116,15 @@ module _ (m : Machine) (long : length (m .regs) ≡ 256) (tmr-byte : held m 0xF1
 
 -- what is seen, put back, is the machine itself
 pub put-own : (m : Machine) → held m 0xF1 < 256 → movedTo m (movingOf m) ≡ m
-unfolding movingOf movedTo placed countsAt
+unfolding movingOf movedTo placed countsAt withPort
 put-own m h = rw (enabling-own _ h, place-own (m .regs) 0xF1, place-own (m .regs) 0xFA)
 
--- where the enable bits and IRQ are as they were, the counts alone are put
+-- where the enable bits, IRQ and the serial port are as they were, the counts alone are put
 counts-alone : (m : Machine) (x : Moving) → held m 0xF1 < 256 → x .t0 .enabled ≡ enable0 (held m 0xF1) → x .t1 .enabled ≡ enable1 (held m 0xF1)
-    → x .lines .irq ≡ held m 0xFA → movedTo m x ≡ countsAt m x
-unfolding movedTo placed countsAt
-counts-alone m x h e0 e1 e =
-    rw (e0, e1, e, enabling-own _ h, place-own (m .regs) 0xF1, place-own (m .regs) 0xFA)
+    → x .lines .irq ≡ held m 0xFA → x .lines .port ≡ m .port → movedTo m x ≡ countsAt m x
+unfolding movedTo placed countsAt withPort
+counts-alone m x h e0 e1 e p =
+    rw (e0, e1, e, p, enabling-own _ h, place-own (m .regs) 0xF1, place-own (m .regs) 0xFA)
 
 -- n cycles of a machine are n cycles of what they move, put back once
 module _ (m : Machine) (long : length (m .regs) ≡ 256) (tmr-byte : held m 0xF1 < 256) where
@@ -153,7 +153,7 @@ module _ (m : Machine) (long : length (m .regs) ≡ 256) (tmr-byte : held m 0xF1
       rw (
         span-is n,
         few-is set n (movingOf m) ls lm f,
-        counts-alone m (counting set (movingOf m) (fewCycles set n (movingOf m))) tmr-byte refl refl refl,
+        counts-alone m (counting set (movingOf m) (fewCycles set n (movingOf m))) tmr-byte refl refl refl refl,
       )
 
   -- each cycle ends a count at most once

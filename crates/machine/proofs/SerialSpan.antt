@@ -16,7 +16,7 @@ use Rattle.timers.specs.declared.Setting.{Setting}
 use Rattle.timers.specs.declared.Spanned.{Spanned}
 use Rattle.timers.proofs.BitClock.{port-hears, port-rests}
 use Rattle.machine.specs.Names.{TMR, IRQ}
-use Rattle.machine.specs.State.{held, placed}
+use Rattle.machine.specs.State.{held, placed, withPort}
 use Rattle.machine.specs.Clock.{Ran, controlWith, controlOf, movingOf, countsAt, movedTo, shown, spanOf}
 use Rattle.machine.specs.Serial.{portMode}
 use Rattle.machine.specs.Legal.{Legal}
@@ -33,7 +33,7 @@ module _ (m : Machine) (l : Legal m) (n : ℕ) where
   -- what is left of a span in the port and in IRQ
   left-in : (x : Lines) → after .moving .lines ≡ x
       → (shown m after .machine .port ≡ x .port) × (held (shown m after .machine) IRQ ≡ x .irq)
-  unfolding shown movedTo placed countsAt
+  unfolding shown movedTo placed countsAt withPort
   left-in x e =
       (ap (λ (y : Lines). y .port) e, put-irq m (l .file .long) (l .file .bytes TMR) (after .moving) ∙ ap (λ (y : Lines). y .irq) e)
 

@@ -152,7 +152,7 @@ pub record SpanLeaves (m k : Machine) : Type 0 where
   pub cost : k .cost ≡ m .cost
 
 pub span-leaves : (m : Machine) → Legal m → (n : ℕ) → SpanLeaves m (spanOf n m .machine)
-unfolding movingOf movedTo placed countsAt shown
+unfolding movingOf movedTo placed countsAt withPort shown
 span-leaves m l n = rw (span-is m long byte n) (moved-leaves (cycles (settingOf (controlOf m)) n (movingOf m) .moving) (cycles-leave m n)
     (cycles-legal (settingOf (controlOf m)) (setting-of l) n (movingOf m) (l .moving) .irq-high))
   where

@@ -94,6 +94,6 @@ raise-keeps m n =
 
 -- cycles keep the last pins
 pub span-last3 : (n : ℕ) (m : Machine) → spanOf n m .machine .last3 ≡ m .last3
-unfolding spanOf cycleOf shown movedTo placed countsAt
+unfolding spanOf cycleOf shown movedTo placed countsAt withPort
 span-last3 n m =
     iter-keeps cycleOf (λ (r : Ran). r .machine .last3 ≡ m .last3) (λ r e. e) n (record { machine = m; ends0 = 0; ends1 = 0 }) refl

@@ -11,7 +11,7 @@ use Rattle.timers.specs.declared.Moving.{Moving}
 use Rattle.timers.specs.declared.Spanned.{Spanned}
 use Rattle.machine.specs.Names.{TMR, T1, PRE1, T0, PRE0, P3M, IRQ}
 use Rattle.word.specs.Choose.{bitsIf}
-use Rattle.machine.specs.State.{whole, coreOf, held, placed, atPort}
+use Rattle.machine.specs.State.{whole, coreOf, held, placed, withPort}
 use Rattle.machine.specs.declared.Machine.{Machine}
 use Rattle.machine.specs.declared.Core.{Core}
 
@@ -52,17 +52,16 @@ countingAt k divider t0 t1 tout =
       port = k .port;
     }
 
--- with the serial port too: all that cycles move but what stands in the file
 abbrev pub coreAt : Core → Moving → Core
-coreAt k x = atPort (countingAt k (x .divider) (x .t0 .timer) (x .t1 .timer) (x .lines .tout)) (x .lines .port)
+coreAt k x = countingAt k (x .divider) (x .t0 .timer) (x .t1 .timer) (x .lines .tout)
 
 unfoldable pub countsAt : Machine → Moving → Machine
 countsAt m x = whole (m .regs) (coreAt (coreOf m) x)
 
--- the machine with all that cycles move as given: the counts, the enable bits in TMR, and IRQ
+-- the machine with all that cycles move as given: the counts, the serial port, the enable bits in TMR, and IRQ
 unfoldable pub movedTo : Machine → Moving → Machine
 movedTo m x =
-    placed (placed (countsAt m x) TMR (enabling (held m TMR) (x .t0 .enabled) (x .t1 .enabled))) IRQ (x .lines .irq)
+    placed (placed (withPort (countsAt m x) (x .lines .port)) TMR (enabling (held m TMR) (x .t0 .enabled) (x .t1 .enabled))) IRQ (x .lines .irq)
 
 -- a write to TMR: "Writing a load bit copies P and N, sets T_OUT to 1 if the byte written chooses that timer, and reads back 0. The
 -- divider isn't touched."

@@ -23,7 +23,7 @@ use Rattle.opcodes.specs.Map.{entryOf, opcodeMap}
 use Rattle.opcodes.specs.Instruction.{lengthOf}
 use Rattle.opcodes.specs.Cycles.{cyclesOf, cycleMap}
 use Rattle.machine.specs.Names.{TMR}
-use Rattle.machine.specs.State.{heldIn, placedIn, held, placed, withPc, withLast3}
+use Rattle.machine.specs.State.{heldIn, placedIn, held, placed, withPc, withLast3, withPort}
 use Rattle.machine.specs.Serial.{portMode}
 use Rattle.machine.specs.Registers.{readReg, writeReg}
 use Rattle.machine.specs.Addresses.{workingAt, registerAt, readPair, writePair}
@@ -71,7 +71,7 @@ unfolding examples
     entryOf opcodeMap lengthOf cyclesOf cycleMap
     heldIn placedIn placed withPc withLast3 resetPlaces newOf defaultOf readReg writeReg workingAt registerAt readPair writePair
     programByte pushed pushedInternal
-    controlWith controlOf movingOf enabling countsAt movedTo writeTmr seen shown cycleOf spanOf
+    controlWith controlOf movingOf enabling countsAt withPort movedTo writeTmr seen shown cycleOf spanOf
     oneAt operandsOf binaryOf unaryOf pairedOf binaryDeed unaryDeed adjustDeed daDeed pairedDeed djnzDeed jrDeed deedOf outcomeOf
     flagged storedAt wordStoredAt jumped looped interruptsTo doneOf codeAt performOf executeAs executeOf
     fell latchedIf latchedBy portMode startedBy movedByEdges comparedOf groupA groupB groupC ordered priorities firstStanding granted grantOf
