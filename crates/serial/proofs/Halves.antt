@@ -1,9 +1,9 @@
 -- The port's ends are each half's ends.
-use mathlib.Core.Path.{_≡_, refl, ap, _∙_}
+use mathlib.Core.Path.{_≡_, refl, ap}
 use Prim.Native.Nat.{ℕ, zero, suc}
 use Rattle.word.specs.Iter.{iter}
-use Rattle.serial.specs.Port.{portEnd, morePort, portEnds}
-use Rattle.serial.specs.ForCode.{moreSent, sentEnds, moreHeard, heardEnds, both}
+use Rattle.serial.specs.Port.{both, portEnd, morePort, portEnds}
+use Rattle.serial.specs.ForCode.{moreSent, sentEnds, moreHeard, heardEnds}
 use Rattle.serial.specs.declared.Mode.{Mode}
 use Rattle.serial.specs.declared.Port.{Port}
 
