@@ -1,10 +1,11 @@
 -- The definition tried: every byte, sent and received.
-use mathlib.Core.Path.{_≡_, refl}
-use mathlib.Core.Bool.{Bool, true, false}
+use mathlib.Core.Path.{_≡_, refl, ap, _∙_}
+use mathlib.Core.Bool.{Bool, true, false, not}
 use Prim.Native.Nat.{ℕ, _+_, _*_, _%_, _<_}
 use Rattle.word.specs.Fields.{isSet}
 use Rattle.word.proofs.Computed.{agree, agree2}
 use Rattle.word.specs.Iter.{iter}
+use Rattle.word.proofs.Iterate.{iter-add, iter-fixed}
 use Rattle.serial.specs.Parity.{isOdd, sentBits, receivedByte}
 use Rattle.serial.specs.Transmitter.{idle, stored, levelOf, sentEnd}
 use Rattle.serial.specs.Receiver.{waiting, started, entered, shiftClock, unasked3, heardEnd}
@@ -32,18 +33,6 @@ pub stop-bits-high : (parity : Bool) (v d : ℕ) → d < 64 → levelOf (sentEnd
 unfolding iter sentEnds moreSent sentEnd stored levelOf
 stop-bits-high parity v d h = agree (λ e. levelOf (sentEnds (144 + e) (stored parity v) .transmitter)) (λ e. true) 64 refl d h
 
--- a line that is high at the 8th end after the edge was no start bit: nothing is asked for, and the receiver waits again
-pub false-start : (parity : Bool) (received : ℕ) → heardEnds parity true 8 (started (waiting received)) ≡ unasked3 (waiting received)
-unfolding iter heardEnds moreHeard heardEnd shiftClock started
-false-start parity received = refl
-
--- from a start edge to the 136th end after it, another edge is data
-pub edge-in-a-character : (parity : Bool) (received n : ℕ) → n < 136
-    → started (heardEnds parity false n (started (waiting received)) .receiver) ≡ heardEnds parity false n (started (waiting received)) .receiver
-unfolding iter heardEnds moreHeard heardEnd shiftClock started entered
-edge-in-a-character parity received n h =
-    agree (λ k. started (heardEnds parity false k (started (waiting received)) .receiver)) (λ k. heardEnds parity false k (started (waiting received)) .receiver) 136 refl n h
-
 -- P37 joined to P30: one end more, and n ends after a store and the start edge that it makes
 abbrev joined : Bool → Ended → Ended
 joined parity x = morePort (record { on = true; parity = parity; high = levelOf (x .port .transmitter) }) x
@@ -57,6 +46,16 @@ HeardAs parity f v =
     (echo parity 135 v .asked3 ≡ false) × (echo parity 136 v .asked3 ≡ true) × (echo parity 136 v .port .receiver ≡ waiting (f v))
 
 module _ (v : ℕ) (h : v < 256) where
+  -- with parity the eight bits have an odd number of ones, and seven are the byte's
+  pub sent-odd : (isOdd (sentBits true v) ≡ true) × (sentBits true v % 128 ≡ v % 128)
+  unfolding sentBits isOdd
+  sent-odd = (agree (λ x. isOdd (sentBits true x)) (λ x. true) 256 refl v h, agree (λ x. sentBits true x % 128) (λ x. x % 128) 256 refl v h)
+
+  -- a received byte's bit 7 is set where the eight bits had an even number of ones, and the others stay
+  pub even-flagged : (isSet 7 (receivedByte true v) ≡ not (isOdd v)) × (receivedByte true v % 128 ≡ v % 128)
+  unfolding receivedByte isOdd
+  even-flagged = (agree (λ x. isSet 7 (receivedByte true x)) (λ x. not (isOdd x)) 256 refl v h, agree (λ x. receivedByte true x % 128) (λ x. x % 128) 256 refl v h)
+
   pub heard-as-sent : HeardAs false (λ x. x) v
   unfolding iter morePort portEnd heardEnd shiftClock sentEnd levelOf stored started entered sentBits receivedByte isOdd
   heard-as-sent = (
@@ -73,7 +72,25 @@ module _ (v : ℕ) (h : v < 256) where
     agree (λ x. echo true 136 x .port .receiver) (λ x. waiting (x % 128)) 256 refl v h,
   )
 
-  -- with parity the eight bits have an odd number of ones, and seven are the byte's
-  pub sent-odd : (isOdd (sentBits true v) ≡ true) × (sentBits true v % 128 ≡ v % 128)
-  unfolding sentBits isOdd
-  sent-odd = (agree (λ x. isOdd (sentBits true x)) (λ x. true) 256 refl v h, agree (λ x. sentBits true x % 128) (λ x. x % 128) 256 refl v h)
+-- a line that is high at the 8th end after the edge was no start bit: nothing is asked for, and the receiver waits again
+pub false-start : (parity : Bool) (received : ℕ) → heardEnds parity true 8 (started (waiting received)) ≡ unasked3 (waiting received)
+unfolding iter heardEnds moreHeard heardEnd shiftClock started
+false-start parity received = refl
+
+-- a break: P30 stays low, and a null character is received, once
+pub break-heard : (received n : ℕ) → heardEnds false false (n + 136) (started (waiting received)) ≡ record { receiver = waiting 0; asked = true }
+unfolding heardEnds iter moreHeard heardEnd shiftClock started entered receivedByte
+break-heard received n = iter-add (moreHeard false false) n 136 (unasked3 (started (waiting received))) ∙ ap (iter n (moreHeard false false)) null ∙ iter-fixed (moreHeard false false) _ stays n
+  where
+    null : iter 136 (moreHeard false false) (unasked3 (started (waiting received))) ≡ record { receiver = waiting 0; asked = true }
+    null = refl
+
+    stays : moreHeard false false (record { receiver = waiting 0; asked = true }) ≡ record { receiver = waiting 0; asked = true }
+    stays = refl
+
+-- from a start edge to the 136th end after it, another edge is data
+pub edge-in-a-character : (parity : Bool) (received n : ℕ) → n < 136
+    → started (heardEnds parity false n (started (waiting received)) .receiver) ≡ heardEnds parity false n (started (waiting received)) .receiver
+unfolding iter heardEnds moreHeard heardEnd shiftClock started entered
+edge-in-a-character parity received n h =
+    agree (λ k. started (heardEnds parity false k (started (waiting received)) .receiver)) (λ k. heardEnds parity false k (started (waiting received)) .receiver) 136 refl n h
