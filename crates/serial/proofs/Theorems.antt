@@ -1,19 +1,19 @@
 -- Ends, stores and edges keep what is legal; ends in a row.
-use mathlib.Core.Path.{_≡_, refl, ap, sym, _∙_}
-use mathlib.Core.Bool.{Bool, true, false, not, _||_}
-use Prim.Native.Nat.{ℕ, zero, suc, _+_, _/_, _%_, _<_}
+use mathlib.Core.Path.{_≡_, refl, ap, _∙_}
+use mathlib.Core.Bool.{Bool, true, false, not, _&&_, _||_}
+use Prim.Native.Nat.{ℕ, _+_, _%_, _≤_, _<_}
 use native.Mathlib.Nat.{add-comm}
 use native.Mathlib.Omega.{arith}
 use lib.Dec.{eqb, ltb}
-use borrow.Author.Tests.{eqb-true, eqb-false, ltb-true, ltb-false}
-use Rattle.word.specs.Choose.{pick, bitsIf}
+use borrow.Author.Tests.{ne-eqb, lt-ltb, eqb-true, eqb-false, ltb-true}
+use Rattle.word.specs.Choose.{pick}
 use Rattle.word.proofs.Computed.{by-test}
 use Rattle.word.specs.Iter.{iter}
 use Rattle.word.proofs.Iterate.{iter-keeps, iter-split, iter-past}
-use Rattle.serial.specs.Parity.{isOdd, sentBits, receivedByte}
-use Rattle.serial.specs.Transmitter.{idle, stored, sentEnd, LegalTransmitter}
-use Rattle.serial.specs.Receiver.{waiting, started, entered, shiftedTo, lasts, heardEnd, LegalReceiver}
-use Rattle.serial.specs.Port.{portEnd, quiet, after, morePort, portEnds, LegalPort}
+use Rattle.serial.specs.Parity.{withBit7, isOdd, sentBits, receivedByte}
+use Rattle.serial.specs.Transmitter.{idle, stored, sentEnd, LegalTransmitter, transmitterFits}
+use Rattle.serial.specs.Receiver.{waiting, started, entered, shiftClock, shiftsAt, heardEnd, LegalReceiver, receiverFits}
+use Rattle.serial.specs.Port.{portEnd, quiet, askedSince, morePort, portEnds, LegalPort}
 use Rattle.serial.specs.declared.Transmitter.{Transmitter}
 use Rattle.serial.specs.declared.Sent.{Sent}
 use Rattle.serial.specs.declared.Receiver.{Receiver}
@@ -21,23 +21,26 @@ use Rattle.serial.specs.declared.Heard.{Heard}
 use Rattle.serial.specs.declared.Mode.{Mode}
 use Rattle.serial.specs.declared.Port.{Port}
 use Rattle.serial.specs.declared.Ended.{Ended}
+use Rattle.serial.proofs.Ranges.{sending-range, awaits-edge, in-start-bit, data-range}
 
--- a byte with its bit 7 replaced, or left
-flagged : (b parity : Bool) (v : ℕ) → v < 256 → pick parity (v % 128 + bitsIf b 128) v < 256
+flagged : (parity set : Bool) (v : ℕ) → v < 256 → withBit7 parity set v < 256
 flagged true true v h = omega arith
-flagged false true v h = omega arith
-flagged b false v h = h
+flagged true false v h = omega arith
+flagged false set v h = h
 
 pub idle-legal : LegalTransmitter idle
-idle-legal = record { bits-byte = omega arith; place-high = omega arith; ends-high = omega arith; at-rest = λ e. refl }
+unfolding transmitterFits
+idle-legal = record { bits-byte = omega arith; fits = tt }
 
 sending-legal : (bits place ends : ℕ) → bits < 256 → 0 < place → place < 12 → ends < 16
     → LegalTransmitter (record { bits = bits; place = place; ends = ends })
-sending-legal bits place ends b p q e = record { bits-byte = b; place-high = q; ends-high = e; at-rest = λ z. absurd (omega arith) }
+unfolding transmitterFits
+sending-legal bits place ends b p q e =
+    record { bits-byte = b; fits = rw (ne-eqb place 0 (λ z. omega arith), lt-ltb place 12 q, lt-ltb ends 16 e) tt }
 
 pub stored-legal : (parity : Bool) (v : ℕ) → v < 256 → LegalTransmitter (stored parity v)
 unfolding stored sentBits
-stored-legal parity v h = sending-legal _ 1 0 (flagged (not (isOdd (v % 128))) parity v h) (omega arith) (omega arith) (omega arith)
+stored-legal parity v h = sending-legal _ 1 0 (flagged parity (not (isOdd (v % 128))) v h) (omega arith) (omega arith) (omega arith)
 
 sent-legal : (t : Transmitter) → LegalTransmitter t → LegalTransmitter (sentEnd t .transmitter)
 unfolding sentEnd
@@ -45,55 +48,65 @@ sent-legal t l =
     by-test Legal (eqb (t .place) 0) (λ e. l)
     (λ e.
     let busy : t .place ≡ 0 → ⊥ = eqb-false (t .place) 0 e in
-    by-test Legal (ltb (t .ends) 15) (λ f. sending-legal (t .bits) (t .place) (t .ends + 1) (l .bits-byte) (omega arith) (l .place-high) (omega (arith, ltb-true)))
+    let place : t .place < 12 = sending-range t l .0 in
+    by-test Legal (ltb (t .ends + 1) 16) (λ f. sending-legal (t .bits) (t .place) (t .ends + 1) (l .bits-byte) (omega arith) place (ltb-true _ _ f))
     (λ f. by-test Legal (ltb (t .place) 11) (λ g. sending-legal (t .bits) (t .place + 1) 0 (l .bits-byte) (omega arith) (omega (arith, ltb-true)) (omega arith)) (λ g. idle-legal)))
   where
     Legal : Sent → Type 0
     Legal x = LegalTransmitter (x .transmitter)
 
 pub waiting-legal : (received : ℕ) → received < 256 → LegalReceiver (waiting received)
-waiting-legal received h =
-    record { received-byte = h; shift-byte = omega arith; awaited-high = omega arith; ends-high = omega arith; at-rest = λ e. refl; in-start = λ e. absurd (omega arith) }
+unfolding receiverFits
+waiting-legal received h = record { received-byte = h; shift-byte = omega arith; fits = tt }
+
+start-legal : (received ends : ℕ) → received < 256 → ends < 8 → LegalReceiver (record { received = received; shift = 0xFF; awaited = 1; ends = ends })
+unfolding receiverFits
+start-legal received ends r e = record { received-byte = r; shift-byte = omega arith; fits = rw (lt-ltb ends 8 e) tt }
 
 -- the middle of a data bit awaited
-data-legal : (received shift awaited ends : ℕ) → received < 256 → shift < 256 → 1 < awaited → awaited < 10 → ends < 16
+pub data-legal : (received shift awaited ends : ℕ) → received < 256 → shift < 256 → 1 < awaited → awaited < 10 → ends < 16
     → LegalReceiver (record { received = received; shift = shift; awaited = awaited; ends = ends })
+unfolding receiverFits
 data-legal received shift awaited ends r s a b e =
-    record { received-byte = r; shift-byte = s; awaited-high = b; ends-high = e; at-rest = λ z. absurd (omega arith); in-start = λ z. absurd (omega arith) }
+    record {
+      received-byte = r;
+      shift-byte = s;
+      fits = rw (ne-eqb awaited 0 (λ z. omega arith), ne-eqb awaited 1 (λ z. omega arith), lt-ltb awaited 10 b, lt-ltb ends 16 e) tt;
+    }
 
 entered-byte : (high : Bool) (shift : ℕ) → shift < 256 → entered high shift < 256
 unfolding entered
 entered-byte true shift h = omega arith
 entered-byte false shift h = omega arith
 
-start-legal : (received ends : ℕ) → received < 256 → ends < 8 → LegalReceiver (record { received = received; shift = 0xFF; awaited = 1; ends = ends })
-start-legal received ends r e =
-    record { received-byte = r; shift-byte = omega arith; awaited-high = omega arith; ends-high = omega arith; at-rest = λ z. absurd (omega arith); in-start = λ z. (refl, e) }
+-- an edge in a character is data
+pub edge-is-data : (r : Receiver) → 0 < r .awaited → started r ≡ r
+unfolding started
+edge-is-data r h = let busy : eqb (r .awaited) 0 ≡ false = ne-eqb (r .awaited) 0 (λ e. omega arith) in rw busy
 
 pub started-legal : (r : Receiver) → LegalReceiver r → LegalReceiver (started r)
 unfolding started
 started-legal r l =
     by-test LegalReceiver (eqb (r .awaited) 0)
-    (λ e. rw (ap shift-of (l .at-rest (eqb-true (r .awaited) 0 e))) (start-legal (r .received) 0 (l .received-byte) (omega arith)))
+    (λ e. rw (ap shift-of (awaits-edge r l (eqb-true (r .awaited) 0 e))) (start-legal (r .received) 0 (l .received-byte) (omega arith)))
     (λ e. l)
   where
     shift-of : Receiver → ℕ
     shift-of x = x .shift
 
 heard-legal : (parity high : Bool) (r : Receiver) → LegalReceiver r → LegalReceiver (heardEnd parity high r .receiver)
-unfolding heardEnd receivedByte
+unfolding heardEnd shiftClock receivedByte
 heard-legal parity high r l =
     by-test Legal (eqb (r .awaited) 0) (λ e. l)
     (λ e.
-    by-test Legal (ltb (r .ends + 1) (lasts (r .awaited))) (λ f. counted (eqb-false (r .awaited) 0 e) (eqb (r .awaited) 1) refl (ltb-true _ _ f))
+    let some : r .awaited ≡ 0 → ⊥ = eqb-false (r .awaited) 0 e in
+    by-test Legal (ltb (r .ends + 1) (shiftsAt (r .awaited))) (λ f. counted some (eqb (r .awaited) 1) refl (ltb-true _ _ f))
     (λ f.
-    by-test Legal (eqb (r .awaited) 1) (λ g. looked high)
+    by-test Legal (eqb (r .awaited) 1 && high) (λ g. waiting-legal (r .received) (l .received-byte))
     (λ g.
-    let past : r .awaited ≡ 0 → ⊥ = eqb-false (r .awaited) 0 e in
-    let start : r .awaited ≡ 1 → ⊥ = eqb-false (r .awaited) 1 g in
     by-test Legal (ltb (r .awaited) 9)
     (λ h. data-legal (r .received) (entered high (r .shift)) (r .awaited + 1) 0 (l .received-byte) byte (omega arith) (omega (arith, ltb-true)) (omega arith))
-    (λ h. waiting-legal _ (flagged (not (isOdd (entered high (r .shift)))) parity (entered high (r .shift)) byte)))))
+    (λ h. waiting-legal _ (flagged parity (not (isOdd (entered high (r .shift)))) (entered high (r .shift)) byte)))))
   where
     Legal : Heard → Type 0
     Legal x = LegalReceiver (x .receiver)
@@ -101,18 +114,15 @@ heard-legal parity high r l =
     byte : entered high (r .shift) < 256
     byte = entered-byte high (r .shift) (l .shift-byte)
 
-    looked : (b : Bool) → LegalReceiver (pick b (waiting (r .received)) (shiftedTo high r 2))
-    looked true = waiting-legal (r .received) (l .received-byte)
-    looked false = data-legal (r .received) (entered high (r .shift)) 2 0 (l .received-byte) byte (omega arith) (omega arith) (omega arith)
-
     counted : (r .awaited ≡ 0 → ⊥) → (b : Bool) → eqb (r .awaited) 1 ≡ b → r .ends + 1 < pick b 8 16
         → LegalReceiver (record { received = r .received; shift = r .shift; awaited = r .awaited; ends = r .ends + 1 })
     counted z true e h =
         let first : r .awaited ≡ 1 = eqb-true (r .awaited) 1 e in
-        rw (first, l .in-start first .0) (start-legal (r .received) (r .ends + 1) (l .received-byte) h)
+        rw (first, in-start-bit r l first .0) (start-legal (r .received) (r .ends + 1) (l .received-byte) h)
     counted z false e h =
         let other : r .awaited ≡ 1 → ⊥ = eqb-false (r .awaited) 1 e in
-        data-legal (r .received) (r .shift) (r .awaited) (r .ends + 1) (l .received-byte) (l .shift-byte) (omega arith) (l .awaited-high) h
+        let bit : 2 ≤ r .awaited = omega arith in
+        data-legal (r .received) (r .shift) (r .awaited) (r .ends + 1) (l .received-byte) (l .shift-byte) bit (data-range r l bit .0) h
 
 -- an end keeps a port legal, and n ends do
 pub end-legal : (m : Mode) (p : Port) → LegalPort p → LegalPort (portEnd m p .port)
@@ -137,15 +147,15 @@ or-false true = refl
 or-false false = refl
 
 module _ (m : Mode) where
-  more-after : (x y : Ended) → morePort m (after x y) ≡ after x (morePort m y)
+  more-since : (x y : Ended) → morePort m (askedSince x y) ≡ askedSince x (morePort m y)
   unfolding morePort
-  more-after x y = rw (or-assoc (x .asked3), or-assoc (x .asked4))
+  more-since x y = rw (or-assoc (x .asked3), or-assoc (x .asked4))
 
-  pub ends-in-a-row : (a b : ℕ) (p : Port) → portEnds m (a + b) p ≡ after (portEnds m a p) (portEnds m b (portEnds m a p .port))
+  pub ends-in-a-row : (a b : ℕ) (p : Port) → portEnds m (a + b) p ≡ askedSince (portEnds m a p) (portEnds m b (portEnds m a p .port))
   unfolding portEnds
   ends-in-a-row a b p =
       let x = iter a (morePort m) (quiet p) in
-      let whole : x ≡ after x (quiet (x .port)) = rw (or-false (x .asked3), or-false (x .asked4)) in
+      let whole : x ≡ askedSince x (quiet (x .port)) = rw (or-false (x .asked3), or-false (x .asked4)) in
       iter-split (morePort m) (a + b) b a (add-comm a b) (quiet p)
       ∙ ap (iter b (morePort m)) whole
-      ∙ iter-past (morePort m) (after x) (more-after x) b (quiet (x .port))
+      ∙ iter-past (morePort m) (askedSince x) (more-since x) b (quiet (x .port))

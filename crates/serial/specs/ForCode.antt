@@ -2,15 +2,12 @@
 use mathlib.Core.Bool.{Bool, _||_}
 use Prim.Native.Nat.{ℕ}
 use Rattle.word.specs.Iter.{iter}
-use Rattle.serial.specs.Transmitter as sending
-use Rattle.serial.specs.Transmitter.{sentEnd}
-use Rattle.serial.specs.Receiver as receiving
-use Rattle.serial.specs.Receiver.{heardEnd}
+use Rattle.serial.specs.Transmitter.{unasked4, sentEnd}
+use Rattle.serial.specs.Receiver.{unasked3, heardEnd}
 use Rattle.serial.specs.declared.Transmitter.{Transmitter}
 use Rattle.serial.specs.declared.Sent.{Sent}
 use Rattle.serial.specs.declared.Receiver.{Receiver}
 use Rattle.serial.specs.declared.Heard.{Heard}
-use Rattle.serial.specs.declared.Ended.{Ended}
 
 unfoldable pub moreSent : Sent → Sent
 moreSent x =
@@ -18,7 +15,7 @@ moreSent x =
     record { transmitter = y .transmitter; asked = x .asked || y .asked }
 
 unfoldable pub sentEnds : ℕ → Transmitter → Sent
-sentEnds n t = iter n moreSent (sending.unasked t)
+sentEnds n t = iter n moreSent (unasked4 t)
 
 unfoldable pub moreHeard : Bool → Bool → Heard → Heard
 moreHeard parity high x =
@@ -26,8 +23,4 @@ moreHeard parity high x =
     record { receiver = y .receiver; asked = x .asked || y .asked }
 
 unfoldable pub heardEnds : Bool → Bool → ℕ → Receiver → Heard
-heardEnds parity high n r = iter n (moreHeard parity high) (receiving.unasked r)
-
--- both halves, and their requests
-abbrev pub both : Heard → Sent → Ended
-both h s = record { port = record { receiver = h .receiver; transmitter = s .transmitter }; asked3 = h .asked; asked4 = s .asked }
+heardEnds parity high n r = iter n (moreHeard parity high) (unasked3 r)

@@ -1,65 +1,69 @@
--- The receiver, one end of T0 at a time (004, 12.3; 02, C-11).
-use mathlib.Core.Path.{_≡_}
+-- The receiver, one end of T0 at a time (004, 12.3.1; 02, C-11). What its numbers stand for is said at the struct, in src/lib.rt.
 use mathlib.Core.Bool.{Bool, true, false, _&&_}
 use Prim.Native.Nat.{ℕ, _+_, _/_, _<_}
-use lib.Dec.{eqb, ltb}
+use lib.Dec.{T, eqb, ltb}
 use Rattle.word.specs.Choose.{pick, bitsIf}
 use Rattle.serial.specs.Parity.{receivedByte}
 use Rattle.serial.specs.declared.Receiver.{Receiver}
 use Rattle.serial.specs.declared.Heard.{Heard}
 
 -- "After a hardware reset or after a character has been received, the Receiver Shift register is initialized to all 1s and the shift clock is
--- stopped."
+-- stopped." The byte received last stays until the next one: "it is not protected from being overwritten" (12.3.2).
 abbrev pub waiting : ℕ → Receiver
 waiting received = record { received = received; shift = 0xFF; awaited = 0; ends = 0 }
 
--- "looking for a start bit (a High-to-Low input transition). When a start bit is detected, the shift clock logic is enabled." An edge while a
--- character is under way is data.
+-- A falling edge of P30. "The start bit detection circuitry monitors the incoming data stream, looking for a start bit (a High-to-Low input
+-- transition). When a start bit is detected, the shift clock logic is enabled." It looks for one again only after the character: an edge
+-- before that is data.
 unfoldable pub started : Receiver → Receiver
 started r = pick (eqb (r .awaited) 0) (record { received = r .received; shift = r .shift; awaited = 1; ends = 0 }) r
 
--- a bit enters at bit 7, and the rest moves down
+-- "serial-in, parallel-out" (12.3): a bit enters at bit 7 and the others move down, so that of eight the first becomes the lowest
 unfoldable pub entered : Bool → ℕ → ℕ
 entered high shift = bitsIf high 128 + shift / 2
 
--- the middle of a bit passed, and this one awaited next
-abbrev pub shiftedTo : Bool → Receiver → ℕ → Receiver
-shiftedTo high r next = record { received = r .received; shift = entered high (r .shift); awaited = next; ends = 0 }
+abbrev pub shiftedIn : Bool → Receiver → Receiver
+shiftedIn high r = record { received = r .received; shift = entered high (r .shift); awaited = r .awaited + 1; ends = 0 }
+
+-- "After a full character has been assembled in the Shift register, the data is transferred to the receiver's buffer, SIO (%F0), and interrupt
+-- request IRQ_3 is generated. The shift clock is stopped and the Shift register reset to all 1s."
+abbrev pub transferred : Bool → ℕ → Heard
+transferred parity character = record { receiver = waiting (receivedByte parity character); asked = true }
 
 -- with no request
-abbrev pub unasked : Receiver → Heard
-unasked r = record { receiver = r; asked = false }
+abbrev pub unasked3 : Receiver → Heard
+unasked3 r = record { receiver = r; asked = false }
 
--- the ends from the start edge to the middle of the start bit, and from middle to middle
-abbrev pub lasts : ℕ → ℕ
-lasts awaited = pick (eqb awaited 1) 8 16
+-- The shift clock, P30 being high or not. "This clock shifts the start bit into the Receiver Shift register at the center of the bit time.
+-- Before the shift actually occurs, the input is rechecked to ensure that the start bit is valid. If the detected start bit is false, the
+-- receiver is reset and the process of looking for a start bit is repeated. If the start bit is valid, the data is shifted into the Shift
+-- register [..] until a full character is assembled", that is with data bit 7, which 9 stands for.
+unfoldable pub shiftClock : Bool → Bool → Receiver → Heard
+shiftClock parity high r =
+    pick (eqb (r .awaited) 1 && high) (unasked3 (waiting (r .received)))
+    (pick (ltb (r .awaited) 9) (unasked3 (shiftedIn high r)) (transferred parity (entered high (r .shift))))
 
--- One end of T0, P30 being high or not. "The T_0 input is divided by 16 and, when the count equals 8, the divider outputs a shift clock. This clock
--- shifts the start bit into the Receiver Shift register at the center of the bit time. Before the shift actually occurs, the input is rechecked to
--- ensure that the start bit is valid. If the detected start bit is false, the receiver is reset and the process of looking for a start bit is
--- repeated. If the start bit is valid, the data is shifted into the Shift register every sixteen counts until a full character is assembled. [..]
--- After a full character has been assembled in the Shift register, the data is transferred to the receiver's buffer, SIO (%F0), and interrupt
--- request IRQ_3 is generated. The shift clock is stopped and the Shift register reset to all 1s."
+-- "The T_0 input is divided by 16 and, when the count equals 8, the divider outputs a shift clock", and then "every sixteen counts": from the
+-- start edge to the middle of the start bit, and from middle to middle.
+abbrev pub shiftsAt : ℕ → ℕ
+shiftsAt awaited = pick (eqb awaited 1) 8 16
+
+-- one end of T0, and whether request 3 comes with it
 unfoldable pub heardEnd : Bool → Bool → Receiver → Heard
 heardEnd parity high r =
-    pick (eqb (r .awaited) 0) (unasked r)
-    (pick (ltb (r .ends + 1) (lasts (r .awaited)))
-    (unasked (record { received = r .received; shift = r .shift; awaited = r .awaited; ends = r .ends + 1 }))
-    (pick (eqb (r .awaited) 1) (unasked (pick high (waiting (r .received)) (shiftedTo high r 2)))
-    (pick (ltb (r .awaited) 9) (unasked (shiftedTo high r (r .awaited + 1)))
-    (record { receiver = waiting (receivedByte parity (entered high (r .shift))); asked = true }))))
+    pick (eqb (r .awaited) 0) (unasked3 r)
+    (pick (ltb (r .ends + 1) (shiftsAt (r .awaited)))
+    (unasked3 (record { received = r .received; shift = r .shift; awaited = r .awaited; ends = r .ends + 1 }))
+    (shiftClock parity high r))
 
--- the legal receivers, by the saved machine's bytes 268 to 271
-pub record LegalReceiver (r : Receiver) : Type 0 where
-  pub received-byte : r .received < 256
-  pub shift-byte : r .shift < 256
-  pub awaited-high : r .awaited < 10
-  pub ends-high : r .ends < 16
-  pub at-rest : r .awaited ≡ 0 → r ≡ waiting (r .received)
-  pub in-start : r .awaited ≡ 1 → (r .shift ≡ 0xFF) × (r .ends < 8)
-
--- the same as a test of bytes
+-- which numbers are a receiver's: the saved machine's bytes 268 to 271
 unfoldable pub receiverFits : Receiver → Bool
 receiverFits r =
     pick (eqb (r .awaited) 0) (eqb (r .shift) 0xFF && eqb (r .ends) 0)
     (pick (eqb (r .awaited) 1) (eqb (r .shift) 0xFF && ltb (r .ends) 8) (ltb (r .awaited) 10 && ltb (r .ends) 16))
+
+-- the same for laws; in code the types say what is a byte
+pub record LegalReceiver (r : Receiver) : Type 0 where
+  pub received-byte : r .received < 256
+  pub shift-byte : r .shift < 256
+  pub fits : T (receiverFits r)

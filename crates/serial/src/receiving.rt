@@ -3,7 +3,6 @@ use crate::Heard;
 use crate::Receiver;
 ghost use mathlib.Core.Path.{_≡_};
 ghost use Prim.Native.Nat.{_≤_};
-ghost use Rattle.word.specs.Choose.{bitsIf};
 ghost use Rattle.word.specs.Iter.{iter};
 ghost use Rattle.serial.specs.Receiver.{waiting, started, entered, LegalReceiver, receiverFits};
 ghost use Rattle.serial.specs.ForCode.{heardEnds};
@@ -27,22 +26,15 @@ pub fn start(r: Receiver) -> Receiver
     let received = r.received;
     let shift = r.shift;
     let awaited = r.awaited;
-    if awaited == 0 {
-        return Receiver {
-            received,
-            shift,
-            awaited: 1,
-            ends: 0,
-        };
+    if 0 < awaited {
+        return r;
     }
-    r
-}
-
-// A byte of bits of this level.
-fn eight(high: bool) -> u8
-    ensures { λ r. ⌜ r ≡ bitsIf high 0xFF ⌝ }
-{
-    if high { 0xFF } else { 0 }
+    Receiver {
+        received,
+        shift,
+        awaited: 1,
+        ends: 0,
+    }
 }
 
 // The shift register after k bits of this level.
@@ -50,12 +42,12 @@ fn shifted(high: bool, shift: u8, k: u8) -> u8
     requires { ⌜ k ≤ 8 ⌝ }
     ensures { λ r. ⌜ r ≡ iter k (entered high) shift ⌝ }
 {
-    let above = eight(high);
+    let above = word::bits_if(high, 0xFF);
     let both = word::word(above, shift);
     word::low_byte(both >> (k as u16))
 }
 
-// n ends of T0 from the middle of the start bit on: the character goes on, or is over with the 128th.
+// n ends of T0 past the middle of the start bit. A character is over with the 128th end after it; d is how many that are, with these.
 fn data_ends(r: Receiver, parity: bool, high: bool, n: u32) -> Heard
     requires { ⌜ LegalReceiver r ⌝ }
     requires { ⌜ 2 ≤ r .awaited ⌝ }
@@ -67,10 +59,10 @@ fn data_ends(r: Receiver, parity: bool, high: bool, n: u32) -> Heard
     let awaited = r.awaited;
     let before = awaited - 2;
     let gone = 16 * before + ends;
-    let left = 128 - gone;
-    if n < left as u32 {
-        let d = gone + n as u8;
-        let bits = d / 16;
+    let d = gone as u64 + n as u64;
+    if d < 128 {
+        let at = d as u8;
+        let bits = at / 16;
         let more = bits - before;
         let next = bits + 2;
         let moved = shifted(high, shift, more);
@@ -78,7 +70,7 @@ fn data_ends(r: Receiver, parity: bool, high: bool, n: u32) -> Heard
             received,
             shift: moved,
             awaited: next,
-            ends: d % 16,
+            ends: at % 16,
         };
         return Heard {
             receiver,
@@ -95,7 +87,7 @@ fn data_ends(r: Receiver, parity: bool, high: bool, n: u32) -> Heard
     }
 }
 
-// n ends of T0, P30 held: to the middle of the start bit, where it is looked at again, and from there on.
+// n ends of T0, P30 held: to the middle of the start bit, where it is looked at again, d ends after the edge; and from there on.
 pub fn ends(r: Receiver, parity: bool, high: bool, n: u32) -> Heard
     requires { ⌜ LegalReceiver r ⌝ }
     ensures { λ a. ⌜ a ≡ heardEnds parity high n r ⌝ }
@@ -113,14 +105,14 @@ pub fn ends(r: Receiver, parity: bool, high: bool, n: u32) -> Heard
     if 1 < awaited {
         return data_ends(r, parity, high, n);
     }
-    let left = 8 - ends;
-    if n < left as u32 {
-        let d = ends + n as u8;
+    let d = ends as u64 + n as u64;
+    if d < 8 {
+        let at = d as u8;
         let receiver = Receiver {
             received,
-            shift: 0xFF,
-            awaited: 1,
-            ends: d,
+            shift,
+            awaited,
+            ends: at,
         };
         return Heard {
             receiver,
@@ -140,7 +132,7 @@ pub fn ends(r: Receiver, parity: bool, high: bool, n: u32) -> Heard
         awaited: 2,
         ends: 0,
     };
-    let later = n - left as u32;
+    let later = (d - 8) as u32;
     data_ends(begun, parity, high, later)
 }
 

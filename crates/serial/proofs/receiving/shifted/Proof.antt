@@ -1,10 +1,9 @@
 use borrow.Author.Needs.{needs}
 use Rattle.serial.proofs.receiving.shifted.Statement.{statement}
 use Rattle.serial.proofs.receiving.shifted.Tie as tie
-use mathlib.Core.Path.{_≡_, refl, sym, _∙_}
+use mathlib.Core.Path.{_≡_, refl}
 use mathlib.Core.Bool.{Bool, true, false}
-use Prim.Native.Nat.{ℕ, _≤_, _<_, _/_, _%_, _^_}
-use native.Mathlib.Omega.{arith}
+use Prim.Native.Nat.{ℕ, _<_, _/_, _^_}
 use Rattle.word.specs.Choose.{bitsIf}
 use Rattle.word.specs.Fields.{wordOf, lowByte}
 use Rattle.word.proofs.Computed.{agree2}
@@ -17,8 +16,8 @@ unfolding iter entered
 all true = agree2 (λ k s. lowByte (wordOf 0xFF s / 2 ^ k)) (λ k s. iter k (entered true) s) 9 256 refl
 all false = agree2 (λ k s. lowByte (wordOf 0 s / 2 ^ k)) (λ k s. iter k (entered false) s) 9 256 refl
 
-eight-requires : tie.Need-eight-requires
-eight-requires c κs = search needs
+bits-if-requires : tie.Need-bits-if-requires
+bits-if-requires c κs = search needs
 
 word-requires : tie.Need-word-requires
 word-requires c κs = search needs
@@ -30,7 +29,14 @@ low-byte-requires : tie.Need-low-byte-requires
 low-byte-requires c κs = search needs
 
 returns : tie.Need-returns
-returns c = let a = c .before .before .before .args in rw (c .low-byte .ensures, c .before .word .ensures, c .before .before .eight .ensures) (all (a .high) (a .k) (a .shift) (search needs) (search needs))
+returns c =
+    let joined : tie.After-word = c .before in
+    let asked : tie.After-bits-if = joined .before in
+    let a = asked .before .args in
+    let above : asked .bits-if .result ≡ bitsIf (a .high) 0xFF = asked .bits-if .ensures .0 in
+    let both : joined .word .result ≡ wordOf (asked .bits-if .result) (a .shift) = joined .word .ensures in
+    let low : c .low-byte .result ≡ lowByte (joined .word .result / 2 ^ a .k) = c .low-byte .ensures in
+    rw (low, both, above) (all (a .high) (a .k) (a .shift) (search needs) (search needs))
 
 pub shifted-spec : {M : Type 1} → statement M
-shifted-spec = tie.close (tie.spec eight-requires word-requires shr-low-byte low-byte-requires returns)
+shifted-spec = tie.close (tie.spec bits-if-requires word-requires shr-low-byte low-byte-requires returns)
