@@ -192,13 +192,13 @@ static void tell_wrong(size_t i)
     printf("NOT ACCEPTED: %lu went in, and %lu came out. Number %lu is wrong: ", (unsigned long)caption_length, (unsigned long)out_length,
            (unsigned long)i + 1);
     if (i < caption_length)
-        printf("%02X went in, ", (unsigned)caption[i]);
+        printf("%02Xh went in, ", (unsigned)caption[i]);
     else
         printf("nothing went in, ");
     if (i == out_length)
         printf("nothing came out.\n");
     else
-        printf("%02X came out%s%s.\n", (unsigned)text_of(&out[i]),
+        printf("%02Xh came out%s%s.\n", (unsigned)text_of(&out[i]),
                parity && !is_odd(out[i].bits >> 1 & 0xFF) ? ", with a wrong parity bit" : "",
                (out[i].bits & STOP_BITS) != STOP_BITS ? ", without two stop bits" : "");
 }
