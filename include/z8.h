@@ -5,12 +5,12 @@
    made from any number of threads at once; one machine, or one data memory, belongs to one call at a time. An image is only read, so
    all machines may share one.
 
-   The serial port, port handshake, bus timing and T1's trigger modes are not there: register F0 reads FF, P3M changes nothing, and T_IN
-   modes 10 and 11 give T1 no ticks.
+   The serial port is there, and has a section of its own below. Port handshake, bus timing and T1's trigger modes are not: of P3M only bits
+   6 and 7 do anything, and T_IN modes 10 and 11 give T1 no ticks.
 
    Each call that libz8.a has, z8_version and z8_make to z8_span, is proved to give, for every input, the one answer that its definition
-   allows (docs/PROMISES.md). z8_answer_text, which is C in this header, and the constants are not proved: they are tested. What is asked
-   of you, because C can't be held to it:
+   allows (docs/PROMISES.md). z8_p37 and z8_answer_text, which are C in this header, and the constants are not proved: they are tested. What
+   is asked of you, because C can't be held to it:
 
      - a pointer to bytes points to as many as the length after it says; with length 0 it may be null;
      - a pointer to a number points to one, and is never null; two outputs may not share one variable;
@@ -29,10 +29,10 @@
 extern "C" {
 #endif
 
-#define Z8_VERSION_MAJOR 1
-#define Z8_VERSION_MINOR 1
+#define Z8_VERSION_MAJOR 2
+#define Z8_VERSION_MINOR 0
 #define Z8_VERSION_PATCH 0
-#define Z8_VERSION "1.1.0"
+#define Z8_VERSION "2.0.0"
 #define Z8_VERSION_NUMBER (65536u * Z8_VERSION_MAJOR + 256u * Z8_VERSION_MINOR + Z8_VERSION_PATCH)
 
 /* The library's own version: 65,536 x MAJOR + 256 x MINOR + PATCH. It is Z8_VERSION_NUMBER where library and header belong together. */
@@ -71,33 +71,45 @@ uint32_t z8_version(void);
    RP (FD). Every machine that a call writes is legal.
 
    Writing into these bytes is no register store. To start T0 by hand, say, set its start value (Z8_T0) and Z8_PRE0, its prescaler and
-   counter, and its enable bit, bit 1 of Z8_TMR. */
+   counter, and its enable bit, bit 1 of Z8_TMR.
 
-#define Z8_SAVED_LEN 268u
+   Before version 2 a saved machine had 268 bytes. A kept one is carried over by appending 00 FF 00 00 FF 00 00 00 (hexadecimal): nothing
+   received, and nothing under way. Its serial port is on where bit 6 of P3M is set, which did nothing then. */
 
-#define Z8_AT_REGISTERS 0u      /* 256 places in address order. 0 to 3: the ports' output latches. F2, F4: start values of T1, T0 */
-#define Z8_AT_PC 256u           /* program counter: the high byte, and after it the low byte */
-#define Z8_AT_DIVIDER 258u      /* cycles since the last tick: 0 to 3 */
-#define Z8_AT_T0_PRESCALER 259u /* 1 to 64 */
-#define Z8_AT_T0_COUNTER 260u   /* the count in progress; 0 stands for 256 */
-#define Z8_AT_T1_PRESCALER 261u /* 1 to 64 */
-#define Z8_AT_T1_COUNTER 262u   /* the count in progress; 0 stands for 256 */
-#define Z8_AT_PORT3 263u        /* the Port 3 pins of the last step */
-#define Z8_AT_T_OUT 264u        /* the T_OUT level: 0 or 1 */
-#define Z8_AT_TYPE 265u         /* Z8_TYPE_Z8601 or Z8_TYPE_Z8611 */
-#define Z8_AT_ENTRY_COST 266u   /* cycles of an interrupt's entry: 6 to 63 */
-#define Z8_AT_ZERO 267u         /* 0 */
+#define Z8_SAVED_LEN 276u
+
+#define Z8_AT_REGISTERS 0u         /* 256 places in address order. 0 to 3: the ports' output latches. F2, F4: start values of T1, T0 */
+#define Z8_AT_PC 256u              /* program counter: the high byte, and after it the low byte */
+#define Z8_AT_DIVIDER 258u         /* cycles since the last tick: 0 to 3 */
+#define Z8_AT_T0_PRESCALER 259u    /* 1 to 64 */
+#define Z8_AT_T0_COUNTER 260u      /* the count in progress; 0 stands for 256 */
+#define Z8_AT_T1_PRESCALER 261u    /* 1 to 64 */
+#define Z8_AT_T1_COUNTER 262u      /* the count in progress; 0 stands for 256 */
+#define Z8_AT_PORT3 263u           /* the Port 3 pins of the last step */
+#define Z8_AT_T_OUT 264u           /* the T_OUT level: 0 or 1 */
+#define Z8_AT_TYPE 265u            /* Z8_TYPE_Z8601 or Z8_TYPE_Z8611 */
+#define Z8_AT_ENTRY_COST 266u      /* cycles of an interrupt's entry: 6 to 63 */
+#define Z8_AT_ZERO 267u            /* 0 */
+#define Z8_AT_RECEIVED 268u        /* the received byte, which F0 reads while the serial port is on */
+#define Z8_AT_RECEIVER_SHIFT 269u  /* the receiver's shift register: FF where the next byte is 0 or 1 */
+#define Z8_AT_RECEIVER_AWAITS 270u /* 0 a start bit; 1 the start bit's middle; 2 to 9 the middle of bit 0 to 7 */
+#define Z8_AT_RECEIVER_ENDS 271u   /* T0's ends since the start edge or the last middle: 0 where the byte before is 0; 0 to 7 where it is 1;
+                                      else 0 to 15 */
+#define Z8_AT_SENDER_BITS 272u     /* the eight bits of the send, as they go out, parity put in: FF where the next byte is 0 */
+#define Z8_AT_SENDER_PLACE 273u    /* what is on P37: 0 nothing, so high; 1 the start bit; 2 to 9 bit 0 to 7; 10 and 11 the stop bits */
+#define Z8_AT_SENDER_ENDS 274u     /* T0's ends since that began: 0 where the byte before is 0, else 0 to 15 */
+#define Z8_AT_PORT_ZERO 275u       /* 0 */
 
 /* The control registers' addresses, by the data sheet's names: TMR, say, is machine[Z8_AT_REGISTERS + Z8_TMR]. */
 
-#define Z8_SIO 0xF0u   /* serial I/O: a hole, as the port is not there */
+#define Z8_SIO 0xF0u   /* serial I/O: its place is zero; what it reads is at Z8_AT_RECEIVED */
 #define Z8_TMR 0xF1u   /* timer mode */
 #define Z8_T1 0xF2u    /* T1's start value */
 #define Z8_PRE1 0xF3u  /* T1's prescaler register */
 #define Z8_T0 0xF4u    /* T0's start value */
 #define Z8_PRE0 0xF5u  /* T0's prescaler register */
 #define Z8_P2M 0xF6u   /* Port 2 mode */
-#define Z8_P3M 0xF7u   /* Port 3 mode */
+#define Z8_P3M 0xF7u   /* Port 3 mode: bit 6 set, the serial port is on; bit 7 set, with odd parity; its other bits do nothing */
 #define Z8_P01M 0xF8u  /* Ports 0 and 1 mode */
 #define Z8_IPR 0xF9u   /* interrupt priority */
 #define Z8_IRQ 0xFAu   /* interrupt request */
@@ -131,7 +143,8 @@ uint32_t z8_make_default(uint8_t *saved, size_t saved_len);
 uint32_t z8_check(const uint8_t *saved, size_t saved_len);
 
 /* The reset pin. The program counter is then 000C, P01M 4D, P2M FF, the other control registers, the latches and the divider 0, T_OUT 1,
-   prescalers 64, counters saved as 0, the last pins all ones; R4 to R127, type and entry cost stay. Refuses with 7, 6. */
+   prescalers 64, counters saved as 0, the last pins all ones, the received byte 0, and the serial port is off with nothing under way, in
+   or out; R4 to R127, type and entry cost stay. Refuses with 7, 6. */
 uint32_t z8_reset(uint8_t *saved, size_t saved_len);
 
 /* ---- Instructions and their bytes ---- */
@@ -153,9 +166,10 @@ uint32_t z8_encode(uint8_t opcode, uint8_t first, uint8_t second,
    image and data both begin at address 0. Program bytes past the image read FF, which is NOP, and stores to program memory are dropped.
    Data addresses under 2,048 (Z8601) or 4,096 (Z8611), or past data_len, read FF and drop stores.
 
-   pins0 to pins3 are the levels at the pins of ports 0 to 3. A program reads them where a port bit is an input; of pins3 the falling edges of
-   bits 0 to 3 are interrupt requests too, and all eight bits become the last pins (Z8_AT_PORT3). Where nothing is connected, pass FF: after
-   making or a reset the last pins are all ones, so a first pins3 of 0 requests interrupts 0 to 3. */
+   pins0 to pins3 are the levels at the pins of ports 0 to 3. A program reads them where a port bit is an input; of pins3 the falling edges
+   of bits 0 to 3 are interrupt requests too (bit 0's not while the serial port is on), and all eight bits become the last pins
+   (Z8_AT_PORT3). Where nothing is connected, pass FF: after making or a reset the last pins are all ones, so a first pins3 of 0 requests
+   interrupts 0 to 3. */
 
 /* One step: the pins are compared with the last ones, an interrupt is granted or else one instruction executed, and the clock goes on by
    what that costs. Writes the machine, what was stored in data memory, the cycles (6 to 63), and how often T0 and T1 ended.
@@ -173,11 +187,51 @@ uint32_t z8_run(uint8_t *saved, size_t saved_len, const uint8_t *image, size_t i
                 uint8_t pins0, uint8_t pins1, uint8_t pins2, uint8_t pins3, uint32_t budget,
                 uint32_t *cycles, uint32_t *ends0, uint32_t *ends1);
 
-/* The clock alone, for any number of cycles: divider, both timers, T_OUT, the requests that their ends latch, and the enable bit in TMR (F1)
-   that the end of a single pass clears. No instruction is executed and no pins are compared; P31 is as in the last pins. By division: a
-   long span takes no longer than a short one. Refuses with 7, 6. */
+/* The clock alone, for any number of cycles: divider, both timers, T_OUT, the serial port while it is on, the requests that these latch,
+   and the enable bit in TMR (F1) that the end of a single pass clears. No instruction is executed and no pins are compared, so no start bit
+   is found; P30 and P31 are as in the last pins. By division: a long span takes no longer than a short one. Refuses with 7, 6. */
 uint32_t z8_span(uint8_t *saved, size_t saved_len, uint32_t span,
                  uint32_t *ends0, uint32_t *ends1);
+
+/* ---- The serial port ----
+
+   It is on while bit 6 of P3M is set. T0 is its clock: a bit lasts 16 ends of T0. One character can be received on P30 and another sent on
+   P37 at the same time.
+
+   On: F0 reads the received byte, which stays until the next one replaces it. Any store to F0 begins a send: a start bit, which is low and
+   on P37 at once, eight bits from bit 0 up, and two stop bits, which are high; request 4 comes with the last of their ends of T0, the 176th
+   after the store. A store before that begins anew with the new byte, and no request comes for the lost one. A falling edge of P30 while
+   no character is coming in is a start bit: the 8th end after it looks at P30 again, and high takes the edge back; from there every 16th
+   end takes a bit, the lowest first. With the eighth, at the 136th end, the byte is received and request 3 comes; no stop bit is looked at.
+   P30's edges latch no request 3, and T0's ends no request 4.
+
+   Parity is odd, and there while bit 7 of P3M is set. Set at the store, it has bit 7 of the byte replaced so that the eight bits have an
+   odd number of ones. Set when a byte is received, it has bit 7 become 1 where their number was even, an error, and 0 where it was odd.
+
+   Off: nothing of it moves, and what is under way rests until it is on again. F0 reads FF and drops stores, and requests 3 and 4 come from
+   P30's falling edges and from T0's ends.
+
+   P30 is bit 0 of pins3. An edge is found where pins are compared, in a run, which holds the pins, by its first step alone: keep the slices
+   of z8_run short, at most an eighth of a bit, and end one wherever the line changes. A span finds no start bit; what is under way goes on
+   in it, with P30 as in the last pins. Bit 7 of P3 reads its latch: the line on P37 is in the saved machine's bytes of the port alone, and
+   z8_p37 tells it. */
+
+/* The level on P37, 0 or 1, of a legal machine: the serial port's line while it is on, else bit 7 of P3's latch. */
+static inline unsigned z8_p37(const uint8_t *saved)
+{
+    const unsigned place = saved[Z8_AT_SENDER_PLACE];
+
+    if ((saved[Z8_AT_REGISTERS + Z8_P3M] & 0x40u) == 0u) {
+        return (saved[Z8_AT_REGISTERS + 3u] & 0x80u) != 0u ? 1u : 0u;
+    }
+    if (place == 1u) {
+        return 0u;
+    }
+    if (place >= 2u && place <= 9u) {
+        return (unsigned)saved[Z8_AT_SENDER_BITS] >> (place - 2u) & 1u;
+    }
+    return 1u;
+}
 
 /* ---- An answer in words ---- */
 
@@ -199,7 +253,7 @@ static inline const char *z8_answer_text(uint32_t answer)
     case Z8_REFUSED_MACHINE:
         return "the saved machine is not legal";
     case Z8_REFUSED_LENGTH:
-        return "the saved machine is not 268 bytes long";
+        return "the saved machine is not 276 bytes long";
     case Z8_REFUSED_INSTRUCTION:
         return "there is no such instruction";
     default:

@@ -1,6 +1,6 @@
 /* hall-listing.c LISTING IMAGE: whether a listing's three columns say the same. The image was made from addresses and bytes; here each
    instruction is decoded from the image and has to lie at the address, have the bytes and read as the instruction column says. It knows
-   the instructions that examples/recital.lst uses, and says so of any other. */
+   the instructions that the listings of examples/ use, and says so of any other. */
 
 #include <stdio.h>
 #include <stdlib.h>
@@ -19,12 +19,14 @@ static const char *reg(uint8_t address)
     static int turn;
     switch (address) {
     case 0x02: return "P2";
+    case 0xF0: return "SIO";
     case 0xF1: return "TMR";
     case 0xF2: return "T1";
     case 0xF3: return "PRE1";
     case 0xF4: return "T0";
     case 0xF5: return "PRE0";
     case 0xF6: return "P2M";
+    case 0xF7: return "P3M";
     case 0xF8: return "P01M";
     case 0xF9: return "IPR";
     case 0xFA: return "IRQ";
@@ -42,15 +44,22 @@ static unsigned in_words(char *text, size_t size, unsigned at, uint8_t opcode, u
     unsigned target = (at + 2 + (unsigned)(first < 128 ? first : first - 256)) & 0xFFFF;
     switch (opcode) {
     case 0x20: snprintf(text, size, "INC  %s", reg(first)); return at;
+    case 0x56: snprintf(text, size, "AND  %s, #%02Xh", reg(first), second); return at;
+    case 0x6B: snprintf(text, size, "JR   Z, %04Xh", target); return target;
+    case 0x74: snprintf(text, size, "TM   %s, %s", reg(second), reg(first)); return at; /* here and below the source byte is first */
+    case 0x76: snprintf(text, size, "TM   %s, #%02Xh", reg(first), second); return at;
     case 0x8B: snprintf(text, size, "JR   %04Xh", target); return target;
     case 0x9F: snprintf(text, size, "EI"); return at;
     case 0xA0: snprintf(text, size, "INCW %s", reg(first)); return at;
+    case 0xA4: snprintf(text, size, "CP   %s, %s", reg(second), reg(first)); return at;
     case 0xB0: snprintf(text, size, "CLR  %s", reg(first)); return at;
     case 0xB6: snprintf(text, size, "XOR  %s, #%02Xh", reg(first), second); return at;
     case 0xBF: snprintf(text, size, "IRET"); return at;
-    case 0xE4: snprintf(text, size, "LD   %s, %s", reg(second), reg(first)); return at; /* source byte first */
+    case 0xE4: snprintf(text, size, "LD   %s, %s", reg(second), reg(first)); return at;
+    case 0xE5: snprintf(text, size, "LD   %s, @%s", reg(second), reg(first)); return at;
     case 0xE6: snprintf(text, size, "LD   %s, #%02Xh", reg(first), second); return at;
     case 0xEB: snprintf(text, size, "JR   NZ, %04Xh", target); return target;
+    case 0xF5: snprintf(text, size, "LD   @%s, %s", reg(second), reg(first)); return at;
     }
     snprintf(text, size, "an opcode that this check does not know");
     return at;

@@ -11,6 +11,7 @@
 #define P1     0x01
 #define P2     0x02
 #define P3     0x03
+#define SIO    0xF0
 #define TMR    0xF1
 #define T1     0xF2
 #define PRE1   0xF3
@@ -27,9 +28,11 @@
 #define SPH    0xFE
 #define SPL    0xFF
 
-/* 01: "80 to EF and F0 read FF and drop stores (HOUSE)." */
+/* 01: "80 to EF and F0 read FF and drop stores (HOUSE)." Of F0 that is so while
+   the serial port is off; 02, C-11: "F0 then reads the received byte and starts
+   a send." */
 #define GAP_FIRST  0x80
-#define GAP_LAST   0xF0
+#define GAP_LAST   0xEF
 
 /* P01M. 002, R248: "P0_0 - P0_3 MODE 00 = OUTPUT 01 = INPUT 1X = A_8 - A_11",
    the other nibble likewise with "A_12 - A_15 = 1X", "P1_0 - P1_7 MODE 00 =
@@ -52,6 +55,41 @@
 #define IRQ_MISSING   0xC0
 #define IMR_MISSING   0x40
 #define RP_MISSING    0x0F
+
+/* 004, 10.4.3: "Bits D_0 - D_5 are assigned to interrupt requests" 0 to 5. */
+#define IRQ_REQUEST3  0x08
+#define IRQ_REQUEST4  0x10
+
+/* P3M. 002, R247: "0 P3_0 = INPUT P3_7 = OUTPUT 1 P3_0 = SERIAL IN P3_7 =
+   SERIAL OUT", "0 PARITY OFF 1 PARITY ON". The bits are 02's: "odd parity by
+   P3M bit 7, active when P3M bit 6 is set"; 004, 12.2: "When Port 3 Mode
+   register bit D_6 is set to 1, the serial I/O is enabled". C-11: "Of P3M only
+   bits 6 and 7 do anything." */
+#define P3M_SERIAL  0x40
+#define P3M_PARITY  0x80
+
+/* Of Port 3's latch, and of its pins. */
+#define PORT3_P30   0x01
+#define PORT3_P37   0x80
+
+int ref_serial_on(const struct ref_machine *m)
+{
+    return (m->file[P3M] & P3M_SERIAL) != 0;
+}
+
+static int parity_is_on(const struct ref_machine *m)
+{
+    return (m->file[P3M] & P3M_PARITY) != 0;
+}
+
+/* C-11: "the port's line while on, else bit 7 of P3's latch". */
+int ref_p37(const struct ref_machine *m)
+{
+    if (ref_serial_on(m)) {
+        return ref_serial_line(&m->serial);
+    }
+    return (m->file[P3] & PORT3_P37) != 0;
+}
 
 /* 01: "An output bit reads its latch, an input bit its pin." Where inputs has a
    1 the bit is an input. */
@@ -116,12 +154,15 @@ static uint8_t read_port1(uint8_t mode, uint8_t latch, uint8_t pins)
     return latch;
 }
 
-/* 01: "80 to EF and F0 read FF". "F3 and F5 to F9 are write-only (002) and read
-   FF. F2 and F4 read the count in progress, 256 as 0." "A P2M bit that is set
-   means input." "P3 bits 0 to 3 are inputs, 4 to 7 outputs." "RP's low nibble
-   always reads 0 (HOUSE)." A load bit "reads back 0". 004, 10.8, of IRQ: "Bits
-   D_6 and D_7 are not implemented, but reading these bits returns 0", of IMR
-   see above. The rest read their places. */
+/* C-11: off, "F0 reads FF", and on it reads the received byte (02); "reading F0
+   clears nothing". 01: "80 to EF and F0 read FF". "F3 and F5 to F9 are
+   write-only (002) and read FF. F2 and F4 read the count in progress, 256 as
+   0." "A P2M bit that is set means input." "P3 bits 0 to 3 are inputs, 4 to 7
+   outputs", whatever P3M: C-11, "bit 7 reads its latch and takes stores as in
+   01", "P30 reads its pin". "RP's low nibble always reads 0 (HOUSE)." A load
+   bit "reads back 0". 004, 10.8, of IRQ: "Bits D_6 and D_7 are not implemented,
+   but reading these bits returns 0", of IMR see above. The rest read their
+   places. */
 uint8_t ref_read(const struct ref_machine *m, const struct ref_pins *pins,
                  uint8_t address)
 {
@@ -140,6 +181,11 @@ uint8_t ref_read(const struct ref_machine *m, const struct ref_pins *pins,
         return latch_or_pin(place, pins->port[2], m->file[P2M]);
     case P3:
         return latch_or_pin(place, pins->port[3], 0x0F);
+    case SIO:
+        if (ref_serial_on(m)) {
+            return m->serial.received;
+        }
+        return 0xFF;
     case TMR:
         return (uint8_t)(place & ~TMR_LOADS);
     case T1:
@@ -176,6 +222,7 @@ static struct ref_timers take_timers(const struct ref_machine *m)
     t.pre0 = m->file[PRE0];
     t.irq = m->file[IRQ];
     t.port3 = m->port3;
+    t.serial_on = (uint8_t)ref_serial_on(m);
     t.divider = m->divider;
     t.prescaler0 = m->prescaler0;
     t.prescaler1 = m->prescaler1;
@@ -200,7 +247,12 @@ static void put_timers(struct ref_machine *m, const struct ref_timers *t)
     m->tout = t->tout;
 }
 
-/* 01: "80 to EF and F0 [...] drop stores (HOUSE)." For the ports see above;
+/* C-11: "Any store to F0 while on (also by the stack, LDCI, CLR, a
+   read-modify-write, which reads the received byte and sends the result)"
+   begins a send, with parity "as it stands at the store"; off, F0 "drops stores
+   as in 01". "F0's place in the register file stays zero".
+
+   01: "80 to EF and F0 [...] drop stores (HOUSE)." For the ports see above;
    Port 2 and Port 3 have no dropped bits: "Other port stores go to the latch,
    input bits too (HOUSE)". "IRQ bits 6 and 7 drop stores (HOUSE)." "RP's low
    nibble always reads 0", and only zero is legal there. "Writing a load bit
@@ -222,6 +274,11 @@ void ref_write(struct ref_machine *m, uint8_t address, uint8_t byte)
     case P1:
         if (!(m->file[P01M] & P01M_PORT1_BUS)) {
             m->file[P1] = byte;
+        }
+        break;
+    case SIO:
+        if (ref_serial_on(m)) {
+            ref_serial_store(&m->serial, byte, parity_is_on(m));
         }
         break;
     case TMR:
@@ -411,7 +468,9 @@ void ref_pop(struct ref_machine *m, const struct ref_pins *pins,
 /* 01: "Reset: PC 000C, P01M 4D, P2M FF; P3M, TMR, IRQ, IMR, PRE0, PRE1, divider
    0; other control bytes and latches 0, T_OUT 1, prescalers 64, counters saved
    as 0, last pins all ones. R4 to R127, type and entry cost stay". The places
-   80 to EF aren't named; they are zero in a legal machine and stay. */
+   80 to EF aren't named; they are zero in a legal machine and stay. The serial
+   port's is ref_serial_reset; 004, 12.5: "Serial mode and parity are
+   disabled". */
 void ref_reset(struct ref_machine *m)
 {
     int i;
@@ -434,6 +493,7 @@ void ref_reset(struct ref_machine *m)
     m->counter1 = 256;
     m->port3 = 0xFF;
     m->tout = 1;
+    ref_serial_reset(&m->serial);
 }
 
 /* 01, refusal 3: "type not 1 or 11, or entry cost not 6 to 63, at making", the
@@ -463,7 +523,11 @@ int ref_make(struct ref_machine *m, uint32_t type, uint32_t entry_cost)
    257 the program counter, high byte first; 258 the divider; 259 and 260 T0's
    prescaler and counter; 261 and 262 T1's; 263 the last Port 3 pins; 264 the
    T_OUT level; 265 the type (1 or 11); 266 the interrupt entry cost; 267
-   zero." */
+   zero." z8-requests.h: "01's 268 bytes stay where they are, and eight
+   follow": 268 "the received byte", 269 "the receiver's shift register", 270
+   "what the receiver waits for", 271 "T0's ends since its last shift clock, or
+   since the start edge", 272 "the transmitter's eight bits", 273 "what is on
+   P37", 274 "T0's ends since this bit began", 275 "zero". */
 #define AT_PC_HIGH     256
 #define AT_PC_LOW      257
 #define AT_DIVIDER     258
@@ -476,14 +540,48 @@ int ref_make(struct ref_machine *m, uint32_t type, uint32_t entry_cost)
 #define AT_TYPE        265
 #define AT_ENTRY_COST  266
 #define AT_ZERO        267
+#define AT_RECEIVED          268
+#define AT_SHIFT             269
+#define AT_AWAITS            270
+#define AT_RECEIVER_ENDS     271
+#define AT_BITS              272
+#define AT_PLACE             273
+#define AT_TRANSMITTER_ENDS  274
+#define AT_PORT_ZERO         275
 
-/* 01, refusals 7, "saved machine not 268 bytes", and 6, "saved machine not
-   legal", tested in this order. "Legal: divider 0 to 3; prescalers 1 to 64;
-   entry cost 6 to 63; T_OUT 0 or 1; type 1 or 11; byte 267 zero; places 80 to
-   EF and F0 (hexadecimal) zero; bits 0 and 2 of TMR, 6 and 7 of IRQ, and 0 to 3
-   of RP zero." */
+static void load_serial(struct ref_serial *s, const uint8_t *saved)
+{
+    s->received = saved[AT_RECEIVED];
+    s->shift = saved[AT_SHIFT];
+    s->awaits = saved[AT_AWAITS];
+    s->receiver_ends = saved[AT_RECEIVER_ENDS];
+    s->bits = saved[AT_BITS];
+    s->place = saved[AT_PLACE];
+    s->transmitter_ends = saved[AT_TRANSMITTER_ENDS];
+}
+
+static void save_serial(const struct ref_serial *s, uint8_t *saved)
+{
+    saved[AT_RECEIVED] = s->received;
+    saved[AT_SHIFT] = s->shift;
+    saved[AT_AWAITS] = s->awaits;
+    saved[AT_RECEIVER_ENDS] = s->receiver_ends;
+    saved[AT_BITS] = s->bits;
+    saved[AT_PLACE] = s->place;
+    saved[AT_TRANSMITTER_ENDS] = s->transmitter_ends;
+    saved[AT_PORT_ZERO] = 0;
+}
+
+/* 01, refusals 7, "saved machine not 268 bytes", which are 276 now
+   (z8-requests.h), and 6, "saved machine not legal", tested in this order.
+   "Legal: divider 0 to 3; prescalers 1 to 64; entry cost 6 to 63; T_OUT 0 or
+   1; type 1 or 11; byte 267 zero; places 80 to EF and F0 (hexadecimal) zero;
+   bits 0 and 2 of TMR, 6 and 7 of IRQ, and 0 to 3 of RP zero." F0's place "stays
+   in the legal list" (C-11). The port's bytes are legal by ref_serial_legal, and
+   275 is "zero". */
 int ref_check(const uint8_t *saved, size_t length)
 {
+    struct ref_serial serial;
     int i;
 
     if (length != REF_SAVED_LENGTH) {
@@ -516,6 +614,9 @@ int ref_check(const uint8_t *saved, size_t length)
             return 6;
         }
     }
+    if (saved[SIO] != 0) {
+        return 6;
+    }
     if (saved[TMR] & TMR_LOADS) {
         return 6;
     }
@@ -523,6 +624,14 @@ int ref_check(const uint8_t *saved, size_t length)
         return 6;
     }
     if (saved[RP] & RP_MISSING) {
+        return 6;
+    }
+
+    load_serial(&serial, saved);
+    if (!ref_serial_legal(&serial)) {
+        return 6;
+    }
+    if (saved[AT_PORT_ZERO] != 0) {
         return 6;
     }
     return 0;
@@ -562,6 +671,7 @@ void ref_load(struct ref_machine *m, const uint8_t *saved)
     m->tout = saved[AT_TOUT];
     m->type = saved[AT_TYPE];
     m->entry_cost = saved[AT_ENTRY_COST];
+    load_serial(&m->serial, saved);
 }
 
 void ref_save(const struct ref_machine *m, uint8_t *saved)
@@ -583,17 +693,49 @@ void ref_save(const struct ref_machine *m, uint8_t *saved)
     saved[AT_TYPE] = m->type;
     saved[AT_ENTRY_COST] = m->entry_cost;
     saved[AT_ZERO] = 0;
+    save_serial(&m->serial, saved);
+}
+
+/* One end of T0 while the serial port is on. C-11: "P30's level is that of the
+   last pins (in a step or a run the byte given)"; parity of what is received is
+   "as it stands at the transfer". */
+static void serial_end(struct ref_machine *m, struct ref_timers *t)
+{
+    int p30 = (m->port3 & PORT3_P30) != 0;
+    struct ref_serial_requests r;
+
+    r = ref_serial_end(&m->serial, p30, parity_is_on(m));
+    if (r.request3) {
+        t->irq = (uint8_t)(t->irq | IRQ_REQUEST3);
+    }
+    if (r.request4) {
+        t->irq = (uint8_t)(t->irq | IRQ_REQUEST4);
+    }
 }
 
 /* 01: "A span is any count from 0 to 4,294,967,295. It compares no pins; P31 is
    as in the last pins." Only the clock moves: no instruction, no grant; the
-   program counter stays. The cycles are timers.c's. */
+   program counter stays. The cycles are timers.c's; 004, 12.2: with the serial
+   port on, T0's "end-of-count signal" is "used as the input to the divide-by-16
+   counters", so each end of T0 is one of the port's, in the same cycle. C-11:
+   "Off, nothing of the port moves". */
 void ref_span(struct ref_machine *m, uint32_t cycles, uint32_t *ends0,
               uint32_t *ends1)
 {
     struct ref_timers t = take_timers(m);
+    uint32_t done, ends_before;
 
-    ref_timer_cycles(&t, cycles);
+    if (ref_serial_on(m)) {
+        for (done = 0; done != cycles; done++) {
+            ends_before = t.ends0;
+            ref_timer_cycle(&t);
+            if (t.ends0 != ends_before) {
+                serial_end(m, &t);
+            }
+        }
+    } else {
+        ref_timer_cycles(&t, cycles);
+    }
     put_timers(m, &t);
     *ends0 = t.ends0;
     *ends1 = t.ends1;

@@ -1,8 +1,11 @@
 /* An independent reference model of the registers, memories, stack, reset,
    saved form and clock of the Zilog Z8601 and Z8611, written from the papers
-   alone: 01-scope.md (01), the 1983 manual (004) and the control-register bits
-   of 002. A rule marked HOUSE in 01 decides first, then 01's other sentences,
-   then 004, then 002. The timers are those of timers.h, by single cycles.
+   alone: 01-scope.md (01), the 1983 manual (004), the control-register bits of
+   002, and change request C-11 of 02-change-requests.md (02) with the points
+   decided for it (C-11) and the bytes of z8-requests.h. 02 decides first, then
+   C-11's points, then a rule marked HOUSE in 01, then 01's other sentences,
+   then 004, then 002. The timers are those of timers.h, by single cycles, and
+   the serial port that of serial.h, by single ends of T0.
 
    It is stated for legal machines (01: "Legal: ..."). Compare machines by
    ref_save, as the struct may have padding. */
@@ -12,7 +15,9 @@
 #include <stddef.h>
 #include <stdint.h>
 
-#define REF_SAVED_LENGTH 268
+#include "serial.h"
+
+#define REF_SAVED_LENGTH 276
 
 struct ref_machine {
     uint8_t file[256];                 /* the places of the register file in
@@ -26,6 +31,7 @@ struct ref_machine {
     uint8_t tout;                      /* T_OUT level, 0 or 1 */
     uint8_t type;                      /* 1 or 11 */
     uint8_t entry_cost;                /* 6 to 63 */
+    struct ref_serial serial;
 };
 
 /* The pins of ports 0 to 3 as they stand now. */
@@ -33,12 +39,18 @@ struct ref_pins {
     uint8_t port[4];
 };
 
+/* 1 where the serial port is on, else 0. */
+int ref_serial_on(const struct ref_machine *m);
+
+/* The level on pin P37, 0 or 1. */
+int ref_p37(const struct ref_machine *m);
+
 /* What a register address reads. The address is taken as it is. */
 uint8_t ref_read(const struct ref_machine *m, const struct ref_pins *pins,
                  uint8_t address);
 
-/* A store to a register address, TMR's load bits and all. The address is taken
-   as it is. */
+/* A store to a register address, TMR's load bits, what F0 sends and all. The
+   address is taken as it is. */
 void ref_write(struct ref_machine *m, uint8_t address, uint8_t byte);
 
 /* The address of working register 0 to 15; a nibble's higher bits are not
@@ -89,10 +101,10 @@ void ref_reset(struct ref_machine *m);
 /* A new machine: 0; or 3, and nothing is changed. */
 int ref_make(struct ref_machine *m, uint32_t type, uint32_t entry_cost);
 
-/* Is it a saved machine: 0, 7 (not 268 bytes) or 6 (not legal). */
+/* Is it a saved machine: 0, 7 (not 276 bytes) or 6 (not legal). */
 int ref_check(const uint8_t *saved, size_t length);
 
-/* From 268 legal bytes, and to 268 bytes. */
+/* From 276 legal bytes, and to 276 bytes. */
 void ref_load(struct ref_machine *m, const uint8_t *saved);
 void ref_save(const struct ref_machine *m, uint8_t *saved);
 

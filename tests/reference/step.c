@@ -68,6 +68,7 @@ static uint32_t edge_of_P31(struct ref_machine *m)
     t.pre0 = m->file[PRE0];
     t.irq = m->file[IRQ];
     t.port3 = m->port3;
+    t.serial_on = (uint8_t)ref_serial_on(m);
     t.divider = m->divider;
     t.prescaler0 = m->prescaler0;
     t.prescaler1 = m->prescaler1;
@@ -94,12 +95,18 @@ static uint32_t edge_of_P31(struct ref_machine *m)
 
    01: "Requests are latched at all times from reset (HOUSE)", so neither IMR
    nor an EI is asked (004, 10.8, has IRQ "held at 0 until an EI instruction is
-   executed"; 01 decides), nor P3M: the UART and the handshake are "Not built
-   now" (and 004, 9.5.2: the input lines "always function as interrupt requests
-   regardless of the configuration specified in the Port 3 Mode register").
-   004, 11.5: "Each High-to-Low transition on T_IN generates interrupt request
-   IRQ_2, regardless of the selected T_IN mode or the enabled/disabled state of
-   T_1." */
+   executed"; 01 decides). 004, 11.5: "Each High-to-Low transition on T_IN
+   generates interrupt request IRQ_2, regardless of the selected T_IN mode or
+   the enabled/disabled state of T_1."
+
+   Of P3M its bit 6 is asked, for P30 alone. 02, C-11: "Requests 3 and 4 come
+   from the port while it is on and not from P30 or T0" (so 004, 10.2.1: IRQ_3
+   "can be generated from an external source only if Serial In is not enabled";
+   9.5.2 has the input lines "always function as interrupt requests regardless
+   of the configuration specified in the Port 3 Mode register", and 02 decides).
+   C-11: "A start bit is a falling edge of P30, found where pins are compared:
+   at the beginning of a step, last pins high, given pins low, port on by P3M as
+   it stands then, receiver waiting." */
 static uint32_t compare_pins(struct ref_machine *m, uint8_t port3)
 {
     uint8_t fell = (uint8_t)(m->port3 & ~port3);
@@ -116,7 +123,11 @@ static uint32_t compare_pins(struct ref_machine *m, uint8_t port3)
         ends1 = edge_of_P31(m);
     }
     if (fell & PORT3_P30) {
-        latch(m, 3);
+        if (ref_serial_on(m)) {
+            ref_serial_edge(&m->serial);
+        } else {
+            latch(m, 3);
+        }
     }
 
     m->port3 = port3;
@@ -254,12 +265,14 @@ static uint32_t grant(struct ref_machine *m, int request,
    Port 3 byte given becomes the last. Grant an interrupt, or else execute one
    instruction. Advance the clock by its cost." So a grant is decided on the
    requests as they stand after the edges, an edge's end of T1 with them, and a
-   step that grants fetches no opcode.
+   step that grants fetches no opcode. C-11: "Ends within that step's own cycles
+   count already", of a start bit, and "A step's store to P3M or F0 acts before
+   its own cycles."
 
    Refusal 5: "opcode undefined [...] step and decode: the same", that is
    "number alone, nothing changed". The edges come before the opcode is met, so
    all is done on a copy; the memory is not written before the last refusal is
-   past. */
+   past. C-11: "A refused step has found none", no start bit. */
 int ref_step(struct ref_machine *m, const struct ref_pins *pins,
              const uint8_t *image, size_t image_length,
              uint8_t *data, size_t data_length,

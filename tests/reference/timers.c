@@ -85,8 +85,12 @@ static inline void end0(struct ref_timers *t)
         t->tmr = (uint8_t)(t->tmr & ~TMR_ENABLE_T0);
     }
 
-    /* 01: "T0's end latches request 4". */
-    t->irq = (uint8_t)(t->irq | IRQ_T0);
+    /* 01: "T0's end latches request 4". 02, C-11: "Requests 3 and 4 come from
+       the port while it is on and not from P30 or T0." 004, 12.2: then "T_0's
+       end-of-count signal no longer generates interrupt request IRQ_4". */
+    if (!t->serial_on) {
+        t->irq = (uint8_t)(t->irq | IRQ_T0);
+    }
 
     /* 01: "The end of the timer chosen by TMR bits 7 and 6 [...] flips
        T_OUT." */
