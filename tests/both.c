@@ -20,7 +20,7 @@ struct lent_machine {
 static void begin(const struct given *g, struct outcome *o, const struct memory *memory)
 {
     memcpy(o->saved, g->saved, Z8_SAVED_LEN);
-    o->cycles = o->ends0 = o->ends1 = UNTOUCHED;
+    o->cycles = o->ends0 = o->ends1 = o->p37 = UNTOUCHED;
     o->data = memory->bytes;
     o->data_size = 0;
     o->written_outside = 0;
@@ -51,6 +51,14 @@ static int loaded(const struct given *g, struct outcome *o, struct ref_machine *
     return 1;
 }
 
+static void save(const struct ref_machine *m, struct outcome *o)
+{
+    ref_save(m, o->saved);
+    if (o->answer == 0) {
+        o->p37 = (uint32_t)ref_p37(m);
+    }
+}
+
 static void lend(const struct given *g, struct outcome *o, struct lent_machine *lent)
 {
     begin(g, o, &found_memory);
@@ -72,6 +80,9 @@ static unsigned not_as_before(const uint8_t guard[GUARD])
 static void take_back(const struct lent_machine *lent, struct outcome *o)
 {
     memcpy(o->saved, lent->saved, Z8_SAVED_LEN);
+    if (o->answer == 0) {
+        o->p37 = z8_p37(lent->saved);
+    }
     o->written_outside = not_as_before(lent->before) + not_as_before(lent->after);
 }
 
@@ -83,7 +94,7 @@ void step_of_reference(const struct given *g, struct outcome *o)
     if (loaded(g, o, &m)) {
         o->answer = (uint32_t)ref_step(&m, &pins, g->image, g->image_length, lent_data(g, &expected_memory),
                                        g->data_length, &o->cycles, &o->ends0, &o->ends1);
-        ref_save(&m, o->saved);
+        save(&m, o);
     }
 }
 
@@ -106,7 +117,7 @@ void run_of_reference(const struct given *g, struct outcome *o)
     if (loaded(g, o, &m)) {
         o->answer = (uint32_t)ref_run(&m, &pins, g->image, g->image_length, lent_data(g, &expected_memory),
                                       g->data_length, g->amount, &o->cycles, &o->ends0, &o->ends1);
-        ref_save(&m, o->saved);
+        save(&m, o);
     }
 }
 
@@ -127,7 +138,7 @@ void span_of_reference(const struct given *g, struct outcome *o)
 
     if (loaded(g, o, &m)) {
         ref_span(&m, g->amount, &o->ends0, &o->ends1);
-        ref_save(&m, o->saved);
+        save(&m, o);
     }
 }
 
@@ -146,7 +157,7 @@ void reset_of_reference(const struct given *g, struct outcome *o)
 
     if (loaded(g, o, &m)) {
         ref_reset(&m);
-        ref_save(&m, o->saved);
+        save(&m, o);
     }
 }
 
@@ -163,7 +174,9 @@ void check_of_reference(const struct given *g, struct outcome *o)
 {
     struct ref_machine m;
 
-    loaded(g, o, &m);
+    if (loaded(g, o, &m)) {
+        save(&m, o);
+    }
 }
 
 void check_of_library(const struct given *g, struct outcome *o)
@@ -182,7 +195,7 @@ void make_of_reference(const struct given *g, struct outcome *o)
     begin(g, o, &expected_memory);
     o->answer = (uint32_t)ref_make(&m, g->amount % 1000, g->amount / 1000);
     if (o->answer == 0) {
-        ref_save(&m, o->saved);
+        save(&m, o);
     }
 }
 

@@ -19,8 +19,9 @@
 #define MEMORY 65536u
 
 /* Register places, by 002. */
-enum { TMR = 0xF1, T1 = 0xF2, PRE1 = 0xF3, T0 = 0xF4, PRE0 = 0xF5, P01M = 0xF8, IPR = 0xF9 };
-enum { IRQ = 0xFA, IMR = 0xFB, FLAGS = 0xFC, RP = 0xFD, SPH = 0xFE, SPL = 0xFF };
+enum { P3 = 0x03, SIO = 0xF0, TMR = 0xF1, T1 = 0xF2, PRE1 = 0xF3, T0 = 0xF4, PRE0 = 0xF5 };
+enum { P3M = 0xF7, P01M = 0xF8, IPR = 0xF9, IRQ = 0xFA, IMR = 0xFB, FLAGS = 0xFC, RP = 0xFD };
+enum { SPH = 0xFE, SPL = 0xFF };
 
 static unsigned long checks, failed;
 
@@ -85,7 +86,8 @@ static uint8_t *data_of(const struct arguments *a)
 #define BASE_PC 0x1234u
 
 /* A machine to which a wrong call would do much: falling edges on all lines, T1 counting them and near its
-   end, both timers near their ends, an external stack, no grant that would come before the opcode. */
+   end, both timers near their ends, the serial port on, waiting for a start bit and near the end of a send,
+   an external stack, no grant that would come before the opcode. */
 static void base_machine(uint8_t *saved)
 {
     struct ref_machine m;
@@ -98,6 +100,10 @@ static void base_machine(uint8_t *saved)
     saved[Z8_AT_T0_PRESCALER] = saved[Z8_AT_T0_COUNTER] = 1;
     saved[Z8_AT_T1_PRESCALER] = saved[Z8_AT_T1_COUNTER] = 1;
     saved[Z8_AT_DIVIDER] = 3;
+    saved[P3M] = 0x40;
+    saved[Z8_AT_SENDER_BITS] = 0x5A;
+    saved[Z8_AT_SENDER_PLACE] = 11;
+    saved[Z8_AT_SENDER_ENDS] = 15;
     saved[P01M] = 0;
     saved[SPH] = 0x20;
     saved[Z8_AT_PC] = BASE_PC / 256;
@@ -220,6 +226,63 @@ static void fault_byte(struct arguments *a, uint32_t value)
     lent.saved[GUARD + value % 1000] = (uint8_t)(value / 1000);
 }
 
+struct port {
+    const char *words; /* of z8-requests.h, or what is at their edge */
+    uint8_t bytes[8];  /* 268 to 275 of the saved machine */
+};
+
+/* z8-requests.h, each rule broken alone, at the edges of its range. */
+static const struct port illegal_ports[] = {
+    {"269: FF while it waits for a start bit", {0x00, 0xFE, 0, 0, 0xFF, 0, 0, 0}},
+    {"269: FF while it waits for a start bit", {0x00, 0x7F, 0, 0, 0xFF, 0, 0, 0}},
+    {"269: FF while it waits for the middle of one", {0x00, 0xFE, 1, 0, 0xFF, 0, 0, 0}},
+    {"269: FF while it waits for the middle of one", {0x00, 0x7F, 1, 7, 0xFF, 0, 0, 0}},
+    {"270: 2 to 9 the middle of data bit 0 to 7", {0x00, 0xFF, 10, 0, 0xFF, 0, 0, 0}},
+    {"270: 2 to 9 the middle of data bit 0 to 7", {0x00, 0x00, 255, 15, 0xFF, 0, 0, 0}},
+    {"271: 0 where 270 is 0", {0x00, 0xFF, 0, 1, 0xFF, 0, 0, 0}},
+    {"271: 0 to 7 where 270 is 1", {0x00, 0xFF, 1, 8, 0xFF, 0, 0, 0}},
+    {"271: 0 to 15 where 270 is over 1", {0x00, 0x7F, 2, 16, 0xFF, 0, 0, 0}},
+    {"271: 0 to 15 where 270 is over 1", {0x00, 0x00, 9, 16, 0xFF, 0, 0, 0}},
+    {"271: 0 to 15 where 270 is over 1", {0x00, 0x00, 9, 255, 0xFF, 0, 0, 0}},
+    {"272: FF when idle", {0x00, 0xFF, 0, 0, 0xFE, 0, 0, 0}},
+    {"272: FF when idle", {0x00, 0xFF, 0, 0, 0x7F, 0, 0, 0}},
+    {"273: 10 and 11 the stop bits", {0x00, 0xFF, 0, 0, 0xFF, 12, 0, 0}},
+    {"273: 10 and 11 the stop bits", {0x00, 0xFF, 0, 0, 0x00, 255, 15, 0}},
+    {"274: 0 when idle", {0x00, 0xFF, 0, 0, 0xFF, 0, 1, 0}},
+    {"274: 0 to 15", {0x00, 0xFF, 0, 0, 0x00, 1, 16, 0}},
+    {"274: 0 to 15", {0x00, 0xFF, 0, 0, 0xFF, 11, 16, 0}},
+    {"274: 0 to 15", {0x00, 0xFF, 0, 0, 0xFF, 11, 255, 0}},
+    {"275: zero", {0x00, 0xFF, 0, 0, 0xFF, 0, 0, 1}},
+    {"275: zero", {0x00, 0xFF, 0, 0, 0xFF, 0, 0, 0x80}},
+};
+
+#define ILLEGAL_PORTS (sizeof illegal_ports / sizeof illegal_ports[0])
+
+/* And the last that are legal. */
+static const struct port legal_ports[] = {
+    {"a new machine's", {0x00, 0xFF, 0, 0, 0xFF, 0, 0, 0}},
+    {"any received byte", {0xFF, 0xFF, 0, 0, 0xFF, 0, 0, 0}},
+    {"the start edge", {0x80, 0xFF, 1, 0, 0xFF, 0, 0, 0}},
+    {"the last end before the start bit's middle", {0x7F, 0xFF, 1, 7, 0xFF, 0, 0, 0}},
+    {"the start bit shifted in", {0x00, 0x7F, 2, 0, 0xFF, 0, 0, 0}},
+    {"any shift register at data bit 0", {0x00, 0xFF, 2, 15, 0xFF, 0, 0, 0}},
+    {"any shift register at data bit 7", {0x00, 0x00, 9, 15, 0xFF, 0, 0, 0}},
+    {"all ones at data bit 7", {0x00, 0xFF, 9, 0, 0xFF, 0, 0, 0}},
+    {"the store", {0x00, 0xFF, 0, 0, 0x00, 1, 0, 0}},
+    {"the start bit's last end", {0x00, 0xFF, 0, 0, 0xFF, 1, 15, 0}},
+    {"the last stop bit's last end", {0x00, 0xFF, 0, 0, 0x00, 11, 15, 0}},
+    {"both ways", {0xA5, 0x5A, 6, 8, 0xC3, 7, 9, 0}},
+};
+
+#define LEGAL_PORTS (sizeof legal_ports / sizeof legal_ports[0])
+
+/* value: which of the illegal ones. */
+static void fault_port(struct arguments *a, uint32_t value)
+{
+    (void)a;
+    memcpy(lent.saved + GUARD + Z8_AT_RECEIVED, illegal_ports[value].bytes, 8);
+}
+
 static void fault_image(struct arguments *a, uint32_t value)
 {
     a->image_length = value;
@@ -292,9 +355,11 @@ static void add_illegal_byte(unsigned place, unsigned byte, const char *what)
     add_fault(6, fault_byte, place + 1000 * byte, what);
 }
 
-/* 01: "Legal: [...]", each rule broken alone at the edges of its range. */
+/* 01: "Legal: [...]", each rule broken alone at the edges of its range; and the serial port's. */
 static void add_illegal_machines(void)
 {
+    uint32_t k;
+
     add_illegal_byte(Z8_AT_DIVIDER, 4, "divider");
     add_illegal_byte(Z8_AT_DIVIDER, 255, "divider");
     add_illegal_byte(Z8_AT_T0_PRESCALER, 0, "T0 prescaler");
@@ -318,6 +383,9 @@ static void add_illegal_machines(void)
     add_illegal_byte(RP, 0x02, "RP");
     add_illegal_byte(RP, 0x04, "RP");
     add_illegal_byte(RP, 0x08, "RP");
+    for (k = 0; k < ILLEGAL_PORTS; k++) {
+        add_fault(6, fault_port, k, "serial port, of the list");
+    }
 }
 
 static void add_makings(void)
@@ -354,8 +422,9 @@ static void list_faults(void)
 {
     add_fault(7, fault_length, 0, "saved length");
     add_fault(7, fault_length, 1, "saved length");
-    add_fault(7, fault_length, 267, "saved length");
-    add_fault(7, fault_length, 269, "saved length");
+    add_fault(7, fault_length, 268, "saved length"); /* what it was before C-11 */
+    add_fault(7, fault_length, 275, "saved length");
+    add_fault(7, fault_length, 277, "saved length");
     add_illegal_machines();
     add_fault(1, fault_image, 65537, "image length");
     add_fault(2, fault_data, 65537, "data length");
@@ -551,6 +620,107 @@ static void check_every_value_of_every_place(void)
     }
 }
 
+/* What the calls say of the list above, and of its neighbours that are legal: with the port on and off, which
+   makes no difference. */
+static void check_ports_in_every_call(const struct port *port, uint32_t expected)
+{
+    struct arguments a;
+    unsigned on;
+
+    for (on = 0; on < 2; on++) {
+        base_call(&a);
+        lent.saved[GUARD + P3M] = on ? 0x40 : 0x00;
+        memcpy(lent.saved + GUARD + Z8_AT_RECEIVED, port->bytes, 8);
+        check_number(expected, (unsigned long)ref_check(lent.saved + GUARD, Z8_SAVED_LEN), port->words);
+        check_machine_in_every_call(port->words);
+    }
+}
+
+/* Every value of each of the port's bytes beside each of the legal ports. */
+static void check_ports_neighbours(const struct port *port)
+{
+    unsigned place, value;
+    char what[80];
+
+    for (place = Z8_AT_RECEIVED; place < Z8_SAVED_LEN; place++) {
+        for (value = 0; value < 256; value++) {
+            uint8_t saved[Z8_SAVED_LEN];
+
+            base_machine(saved);
+            memcpy(saved + Z8_AT_RECEIVED, port->bytes, 8);
+            saved[place] = (uint8_t)value;
+            sprintf(what, "z8_check with %s = %02X beside %s", name_of_saved_byte(place), value, port->words);
+            check_number((unsigned long)ref_check(saved, Z8_SAVED_LEN), z8_check(saved, Z8_SAVED_LEN), what);
+        }
+    }
+}
+
+/* Every two values of what a half awaits or sends and of its ends, with the third byte that goes with them
+   FF, which every rule allows, and 00, which some don't. */
+static void check_half_of_the_port(unsigned third, unsigned place, unsigned ends)
+{
+    uint8_t saved[Z8_SAVED_LEN];
+    unsigned values;
+    char what[80];
+
+    base_machine(saved);
+    memcpy(saved + Z8_AT_RECEIVED, legal_ports[0].bytes, 8);
+    for (values = 0; values < 65536; values++) {
+        unsigned byte;
+
+        saved[place] = (uint8_t)(values / 256);
+        saved[ends] = (uint8_t)values;
+        for (byte = 0; byte < 256; byte += 0xFF) {
+            saved[third] = (uint8_t)byte;
+            if (ref_check(saved, Z8_SAVED_LEN) != (int)z8_check(saved, Z8_SAVED_LEN)) {
+                sprintf(what, "z8_check with %02X %02X %02X from %s on", saved[third], saved[place],
+                        saved[ends], name_of_saved_byte(third));
+                check_number((unsigned long)ref_check(saved, Z8_SAVED_LEN), z8_check(saved, Z8_SAVED_LEN),
+                             what);
+            }
+            checks++;
+        }
+    }
+}
+
+static void check_ports(void)
+{
+    size_t k;
+
+    for (k = 0; k < ILLEGAL_PORTS; k++) {
+        check_ports_in_every_call(&illegal_ports[k], 6);
+    }
+    for (k = 0; k < LEGAL_PORTS; k++) {
+        check_ports_in_every_call(&legal_ports[k], 0);
+        check_ports_neighbours(&legal_ports[k]);
+    }
+    check_half_of_the_port(Z8_AT_RECEIVER_SHIFT, Z8_AT_RECEIVER_AWAITS, Z8_AT_RECEIVER_ENDS);
+    check_half_of_the_port(Z8_AT_SENDER_BITS, Z8_AT_SENDER_PLACE, Z8_AT_SENDER_ENDS);
+}
+
+/* z8.h: "A kept one is carried over by appending 00 FF 00 00 FF 00 00 00", so that nothing is received and
+   nothing under way, and its first 268 bytes are as they were. */
+static void check_carried_over(void)
+{
+    static const uint8_t appended[8] = {0x00, 0xFF, 0x00, 0x00, 0xFF, 0x00, 0x00, 0x00};
+    uint8_t made[Z8_SAVED_LEN], kept[Z8_SAVED_LEN], before[Z8_SAVED_LEN];
+    uint32_t ends0, ends1;
+
+    check_number(268 + sizeof appended, Z8_SAVED_LEN, "a kept machine's 268 bytes and eight more");
+    check_number(Z8_OK, z8_make(made, Z8_SAVED_LEN, 1, 63), "z8_make");
+    memset(kept, 0xEE, Z8_SAVED_LEN);
+    memcpy(kept, made, 268);
+    memcpy(kept + 268, appended, sizeof appended);
+    check(memcmp(kept, made, Z8_SAVED_LEN) == 0, "a new machine carried over is a new machine");
+
+    kept[P3M] = 0xFF;
+    kept[TMR] = 0x02;
+    check_number(Z8_OK, z8_check(kept, Z8_SAVED_LEN), "a kept machine carried over");
+    memcpy(before, kept, Z8_SAVED_LEN);
+    check_number(Z8_OK, z8_span(kept, Z8_SAVED_LEN, 4294967295u, &ends0, &ends1), "and moved on");
+    check(memcmp(before + 268, kept + 268, sizeof appended) == 0, "with nothing under way");
+}
+
 static void check_random_bytes(void)
 {
     unsigned long number;
@@ -702,11 +872,11 @@ static void check_lengths_past_32_bits(void)
     base_call(&a);
     base_machine(much);
     length = ((size_t)1 << 32) + Z8_SAVED_LEN;
-    check_number(7, z8_check(much, length), "z8_check with 2^32 + 268 bytes");
-    check_number(7, z8_reset(much, length), "z8_reset with 2^32 + 268 bytes");
-    check_number(7, z8_make(much, length, 11, 20), "z8_make with 2^32 + 268 bytes");
-    check_number(7, z8_make_default(much, length), "z8_make_default with 2^32 + 268 bytes");
-    check_number(7, z8_span(much, length, 1, &ends0, &ends1), "z8_span with 2^32 + 268 bytes");
+    check_number(7, z8_check(much, length), "z8_check with 2^32 + 276 bytes");
+    check_number(7, z8_reset(much, length), "z8_reset with 2^32 + 276 bytes");
+    check_number(7, z8_make(much, length, 11, 20), "z8_make with 2^32 + 276 bytes");
+    check_number(7, z8_make_default(much, length), "z8_make_default with 2^32 + 276 bytes");
+    check_number(7, z8_span(much, length, 1, &ends0, &ends1), "z8_span with 2^32 + 276 bytes");
     length = (size_t)1 << 32;
     check_number(1, z8_decode(much, length, 0, &opcode, &first, &second, &bytes),
                  "z8_decode with an image of 2^32 bytes");
@@ -1090,23 +1260,27 @@ static void fresh_timer(uint8_t *m, enum timer timer, unsigned p, unsigned n)
     m[TMR] |= timer == TIMER_0 ? 0x02 : 0x08;
 }
 
-/* Each timer alone, so that an end of the other one would be seen. */
+/* Each timer alone, so that an end of the other one would be seen; with the serial port off, and on, where
+   "T0's ends latch no request 4" and "are counted [...] as ever". */
 static void check_ends(unsigned p, unsigned n, unsigned divider, uint32_t span, uint32_t ends,
                        const char *what)
 {
-    int timer;
+    int timer, on;
 
     for (timer = TIMER_0; timer <= TIMER_1; timer++) {
-        uint8_t m[Z8_SAVED_LEN];
-        uint32_t ends0 = UNTOUCHED, ends1 = UNTOUCHED;
+        for (on = 0; on < 2; on++) {
+            uint8_t m[Z8_SAVED_LEN];
+            uint32_t ends0 = UNTOUCHED, ends1 = UNTOUCHED;
 
-        z8_make_default(m, Z8_SAVED_LEN);
-        fresh_timer(m, (enum timer)timer, p, n);
-        m[Z8_AT_DIVIDER] = (uint8_t)divider;
-        check_number(0, z8_span(m, Z8_SAVED_LEN, span, &ends0, &ends1), what);
-        check_number(timer == TIMER_0 ? ends : 0, ends0, what);
-        check_number(timer == TIMER_1 ? ends : 0, ends1, what);
-        check_number(ends == 0 ? 0 : timer == TIMER_0 ? 0x10 : 0x20, m[IRQ], what);
+            z8_make_default(m, Z8_SAVED_LEN);
+            fresh_timer(m, (enum timer)timer, p, n);
+            m[Z8_AT_DIVIDER] = (uint8_t)divider;
+            m[P3M] = on ? 0x40 : 0;
+            check_number(0, z8_span(m, Z8_SAVED_LEN, span, &ends0, &ends1), what);
+            check_number(timer == TIMER_0 ? ends : 0, ends0, what);
+            check_number(timer == TIMER_1 ? ends : 0, ends1, what);
+            check_number(ends == 0 ? 0 : timer == TIMER_1 ? 0x20 : on ? 0 : 0x10, m[IRQ], what);
+        }
     }
 }
 
@@ -1256,6 +1430,112 @@ static void check_offsets(void)
     check_number(Z8_REFUSED_LENGTH, z8_check(m, Z8_SAVED_LEN + 1), "a byte more than Z8_SAVED_LEN");
 }
 
+/* The serial port's places, by what a program and the clock leave there: %35 sent with parity, which has four
+   ones, so that bit 7 is set; and P30 held low from the same moment on. */
+static void check_ports_offsets(void)
+{
+    static const uint8_t program[] = {
+        0xE6, P3M, 0xC0, /* LD P3M: on, with parity */
+        0xE6, SIO, 0x35, /* LD SIO */
+    };
+    static const uint8_t nothing[] = {0xFF}; /* NOP */
+    uint8_t m[Z8_SAVED_LEN];
+    uint32_t ends0, ends1;
+
+    z8_make_default(m, Z8_SAVED_LEN);
+    steps_of(m, program, sizeof program, 2, 0xFF);
+    check_number(0xB5, m[Z8_AT_SENDER_BITS], "Z8_AT_SENDER_BITS");
+    check_number(1, m[Z8_AT_SENDER_PLACE], "Z8_AT_SENDER_PLACE, the start bit");
+    check_number(0, m[Z8_AT_RECEIVER_AWAITS], "Z8_AT_RECEIVER_AWAITS, a start bit");
+    steps_of(m, nothing, sizeof nothing, 1, 0xFE);
+    check_number(1, m[Z8_AT_RECEIVER_AWAITS], "Z8_AT_RECEIVER_AWAITS, the start bit's middle");
+    check_number(0xFF, m[Z8_AT_RECEIVER_SHIFT], "Z8_AT_RECEIVER_SHIFT, none shifted in");
+    fresh_timer(m, TIMER_0, 1, 1);
+    m[Z8_AT_DIVIDER] = 0;
+
+    z8_span(m, Z8_SAVED_LEN, 4 * 5, &ends0, &ends1);
+    check_number(5, m[Z8_AT_RECEIVER_ENDS], "Z8_AT_RECEIVER_ENDS");
+    check_number(5, m[Z8_AT_SENDER_ENDS], "Z8_AT_SENDER_ENDS");
+    z8_span(m, Z8_SAVED_LEN, 4 * 3, &ends0, &ends1);
+    check_number(2, m[Z8_AT_RECEIVER_AWAITS], "Z8_AT_RECEIVER_AWAITS, the middle of bit 0");
+    check_number(0, m[Z8_AT_RECEIVER_ENDS], "Z8_AT_RECEIVER_ENDS, of the next");
+    check_number(0x7F, m[Z8_AT_RECEIVER_SHIFT], "Z8_AT_RECEIVER_SHIFT, the start bit");
+    check_number(8, m[Z8_AT_SENDER_ENDS], "Z8_AT_SENDER_ENDS goes on");
+    z8_span(m, Z8_SAVED_LEN, 4 * 8, &ends0, &ends1);
+    check_number(2, m[Z8_AT_SENDER_PLACE], "Z8_AT_SENDER_PLACE, bit 0");
+    check_number(0, m[Z8_AT_SENDER_ENDS], "Z8_AT_SENDER_ENDS, of the next");
+    z8_span(m, Z8_SAVED_LEN, 4 * (135 - 16), &ends0, &ends1);
+    check_number(9, m[Z8_AT_RECEIVER_AWAITS], "Z8_AT_RECEIVER_AWAITS, the middle of bit 7");
+    check_number(0, m[Z8_AT_RECEIVED], "Z8_AT_RECEIVED, before");
+    z8_span(m, Z8_SAVED_LEN, 4, &ends0, &ends1);
+    check_number(0x80, m[Z8_AT_RECEIVED], "Z8_AT_RECEIVED: no ones, a parity error");
+    check_number(0x08, m[IRQ], "request 3");
+    z8_span(m, Z8_SAVED_LEN, 4 * (175 - 136), &ends0, &ends1);
+    check_number(11, m[Z8_AT_SENDER_PLACE], "Z8_AT_SENDER_PLACE, the last stop bit");
+    check_number(0xB5, m[Z8_AT_SENDER_BITS], "Z8_AT_SENDER_BITS, to the last");
+    z8_span(m, Z8_SAVED_LEN, 4, &ends0, &ends1);
+    check_number(0, m[Z8_AT_SENDER_PLACE], "Z8_AT_SENDER_PLACE, idle");
+    check_number(0xFF, m[Z8_AT_SENDER_BITS], "Z8_AT_SENDER_BITS, idle");
+    check_number(0x18, m[IRQ], "request 4");
+
+    check_number(0, m[Z8_AT_PORT_ZERO], "Z8_AT_PORT_ZERO");
+    m[Z8_AT_PORT_ZERO] = 1;
+    check_number(Z8_REFUSED_MACHINE, z8_check(m, Z8_SAVED_LEN), "Z8_AT_PORT_ZERO has to be 0");
+}
+
+/* z8_p37 at every place and byte: nothing and the stop bits are high, the start bit low, "bit 0 first"; off,
+   it is bit 7 of P3's latch. */
+static void check_p37(void)
+{
+    uint8_t m[Z8_SAVED_LEN];
+    unsigned place, bits, latch;
+
+    z8_make_default(m, Z8_SAVED_LEN);
+    for (bits = 0; bits < 256; bits++) {
+        unsigned frame[12] = {1, 0, [10] = 1, [11] = 1};
+
+        for (place = 2; place < 10; place++) {
+            frame[place] = bits >> (place - 2) & 1;
+        }
+        m[Z8_AT_SENDER_BITS] = (uint8_t)bits;
+        for (place = 0; place < 12; place++) {
+            m[Z8_AT_SENDER_PLACE] = (uint8_t)place;
+            for (latch = 0; latch < 256; latch += 0x55) {
+                m[P3] = (uint8_t)latch;
+                m[P3M] = 0x40;
+                check_number(frame[place], z8_p37(m), "z8_p37 with the port on");
+                m[P3M] = 0xBF;
+                check_number(latch / 128, z8_p37(m), "z8_p37 with the port off");
+            }
+        }
+    }
+}
+
+/* 01: "F0 read[s] FF and drop[s] stores", which since C-11 is so while the port is off; on, it reads what is
+   at Z8_AT_RECEIVED, and a store begins a send and stays nowhere else. */
+static void check_sio(void)
+{
+    static const uint8_t program[] = {
+        0xE4, SIO, 0x41, /* LD %41,SIO */
+        0xE6, SIO, 0x5B, /* LD SIO */
+    };
+    uint8_t m[Z8_SAVED_LEN];
+    unsigned p3m;
+
+    for (p3m = 0; p3m < 256; p3m++) {
+        int on = (p3m & 0x40) != 0;
+
+        z8_make_default(m, Z8_SAVED_LEN);
+        m[P3M] = (uint8_t)p3m;
+        m[Z8_AT_RECEIVED] = 0x2A;
+        steps_of(m, program, sizeof program, 2, 0xFF);
+        check_number(on ? 0x2A : 0xFF, m[0x41], "what F0 reads");
+        check_number(on ? 1 : 0, m[Z8_AT_SENDER_PLACE], "a store to F0");
+        check_number(0, m[Z8_AT_REGISTERS + Z8_SIO], "F0's place");
+        check_number(0x2A, m[Z8_AT_RECEIVED], "the received byte stays");
+    }
+}
+
 /* Data memory that reads other than FF, by the types' names: LDE R4,@RR2 at an address and one below. */
 static void check_type(uint32_t type, unsigned begins)
 {
@@ -1399,7 +1679,8 @@ static void check_register_names(void)
         steps_of(m, program, sizeof program, 1, 0xFF);
         check_number(byte & r->kept, m[Z8_AT_REGISTERS + r->name], r->what);
     }
-    /* A store to F0 is dropped, so that it is known by being the one that has to be zero. */
+    /* A store to F0 stays nowhere in the register file, so it is known by being the one that has to be zero.
+     */
     for (address = 0xF0; address <= 0xFF; address++) {
         z8_make_default(m, Z8_SAVED_LEN);
         m[Z8_AT_REGISTERS + address] = 0x10;
@@ -1457,6 +1738,7 @@ static void check_answer_texts(void)
 {
     static const uint32_t others[] = {9, 10, 256, 0x80000000u, 4294967295u};
     const char *other = z8_answer_text(others[0]);
+    char length[20];
     uint32_t i, j;
 
     for (i = 0; i <= 8; i++) {
@@ -1469,12 +1751,16 @@ static void check_answer_texts(void)
     for (i = 0; i < sizeof others / sizeof others[0]; i++) {
         check(strcmp(z8_answer_text(others[i]), other) == 0, "all other numbers have one sentence");
     }
+    sprintf(length, " %u bytes", Z8_SAVED_LEN);
+    check(strstr(z8_answer_text(Z8_REFUSED_LENGTH), length) != NULL, "refusal 7 names the length");
 }
 
 int main(void)
 {
     check_all_faults();
     check_every_value_of_every_place();
+    check_ports();
+    check_carried_over();
     check_random_bytes();
     check_every_length();
     check_lengths_that_are_fine();
@@ -1488,6 +1774,9 @@ int main(void)
     check_interleaved();
     check_01s_examples();
     check_offsets();
+    check_ports_offsets();
+    check_p37();
+    check_sio();
     check_limits();
     check_refusal_names();
     check_version();

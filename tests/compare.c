@@ -19,8 +19,8 @@
 #include "seen.h"
 
 /* Register places, by 002. */
-enum { TMR = 0xF1, PRE1 = 0xF3, PRE0 = 0xF5, P01M = 0xF8, IPR = 0xF9, IRQ = 0xFA, IMR = 0xFB };
-enum { FLAGS = 0xFC, RP = 0xFD, SPH = 0xFE, SPL = 0xFF };
+enum { SIO = 0xF0, TMR = 0xF1, PRE1 = 0xF3, PRE0 = 0xF5, P3M = 0xF7, P01M = 0xF8, IPR = 0xF9 };
+enum { IRQ = 0xFA, IMR = 0xFB, FLAGS = 0xFC, RP = 0xFD, SPH = 0xFE, SPL = 0xFF };
 
 static unsigned long seed;
 static unsigned long steps, checks, failed;
@@ -165,6 +165,10 @@ static void draw_instruction(struct dice *d, unsigned long number, uint8_t bytes
         bytes[0] = 0xE6; /* LD to T0, T1, PRE0, PRE1 */
         bytes[1] = (uint8_t)(0xF2 + below(d, 4));
     }
+    if (one_in(d, 32)) {
+        bytes[0] = 0xE6; /* LD to SIO, P3M */
+        bytes[1] = one_in(d, 2) ? SIO : P3M;
+    }
 }
 
 static void draw_pins(struct dice *d, struct given *g)
@@ -180,6 +184,10 @@ static void draw_pins(struct dice *d, struct given *g)
     if (one_in(d, 4)) {
         g->saved[Z8_AT_PORT3] |= 2; /* an edge of P31 */
         g->pins[3] &= 0xFD;
+    }
+    if (one_in(d, 4)) {
+        g->saved[Z8_AT_PORT3] |= 1; /* and of P30 */
+        g->pins[3] &= 0xFE;
     }
 }
 
@@ -334,7 +342,8 @@ static void compare_port_modes(void)
 
 static unsigned machines_for_control(unsigned address)
 {
-    return TMR <= address && address <= PRE0 ? 64 : 4; /* a store to the timers' registers meets their state */
+    /* A store to the timers' and the port's registers meets their state. */
+    return (TMR <= address && address <= PRE0) || address == SIO || address == P3M ? 64 : 4;
 }
 
 /* Every byte stored to every control register. */
@@ -770,7 +779,8 @@ static void compare_composed_spans(unsigned long count)
         draw_surroundings(&d, &g);
         g.call = "z8_span, in two parts (expected) and in one (found)";
         g.number = number;
-        total = one_in(&d, 4) ? 4294967295u : (uint32_t)throw64(&d);
+        /* Long, or about as long as a character. */
+        total = one_in(&d, 4) ? 4294967295u : one_in(&d, 2) ? (uint32_t)throw64(&d) : below(&d, 200000);
         g.amount = total;
         span_of_library(&g, &whole);
         g.amount = one_in(&d, 2) ? below(&d, 1000) : (uint32_t)(throw64(&d) % ((uint64_t)total + 1));
@@ -791,6 +801,7 @@ static void compare_composed_spans(unsigned long count)
         rest.ends1 += part.ends1;
         note(part.answer == 0);
         note(same_outcome(&g, &rest, &whole));
+        see_long_span(&g, &whole);
     }
 }
 
@@ -804,7 +815,8 @@ static void draw_checked_machine(struct dice *d, struct given *g, unsigned long 
     draw_surroundings(d, g);
     g->number = number;
     for (changes = below(d, 3); changes > 0; changes--) {
-        g->saved[one_in(d, 2) ? below(d, Z8_SAVED_LEN) : 0xF0 + below(d, 28)] = any_byte(d);
+        g->saved[one_in(d, 2) ? below(d, Z8_SAVED_LEN) : 0xF0 + below(d, Z8_SAVED_LEN - 0xF0)] =
+            one_in(d, 2) ? any_byte(d) : (uint8_t)below(d, 18);
     }
 }
 

@@ -7,9 +7,11 @@
 enum { TMR = 0xF1, T1 = 0xF2, PRE1 = 0xF3, T0 = 0xF4, PRE0 = 0xF5, IRQ = 0xFA };
 enum { IMR = 0xFB, RP = 0xFD, SPH = 0xFE, SPL = 0xFF };
 
-/* Places of the saved machine, by 01. */
+/* Places of the saved machine, by 01 and z8-requests.h. */
 enum { PC = 256, DIVIDER = 258, PRESCALER0 = 259, COUNTER0 = 260, PRESCALER1 = 261 };
 enum { COUNTER1 = 262, PINS3 = 263, T_OUT = 264, TYPE = 265, ENTRY_COST = 266, ZERO = 267 };
+enum { RECEIVED = 268, SHIFT = 269, AWAITS = 270, RECEIVER_ENDS = 271 };
+enum { BITS = 272, PLACE = 273, SENDER_ENDS = 274, PORT_ZERO = 275 };
 
 /* Steele, Lea and Flood's splitmix64: any state will do, so a case number can be one. */
 uint64_t throw64(struct dice *d)
@@ -182,12 +184,35 @@ static void draw_timers(struct dice *d, uint8_t *saved)
     saved[T_OUT] = (uint8_t)below(d, 2);
 }
 
+/* As many ends of T0 as the next is the last of, as often as not. */
+static uint8_t ends_near(struct dice *d, uint8_t most)
+{
+    return (uint8_t)(one_in(d, 2) ? most : below(d, most + 1u));
+}
+
+/* z8-requests.h, bytes 268 to 275: "Legal: just that." What is filled in already is any byte. */
+static void draw_serial(struct dice *d, uint8_t *saved)
+{
+    saved[AWAITS] = (uint8_t)(one_in(d, 4) ? 0 : one_in(d, 4) ? 1 : one_in(d, 4) ? 9 : 2 + below(d, 8));
+    if (saved[AWAITS] < 2) {
+        saved[SHIFT] = 0xFF;
+    }
+    saved[RECEIVER_ENDS] = (uint8_t)(saved[AWAITS] == 0 ? 0 : ends_near(d, saved[AWAITS] == 1 ? 7 : 15));
+
+    saved[PLACE] = (uint8_t)(one_in(d, 4) ? 0 : one_in(d, 4) ? 11 : 1 + below(d, 11));
+    if (saved[PLACE] == 0) {
+        saved[BITS] = 0xFF;
+    }
+    saved[SENDER_ENDS] = (uint8_t)(saved[PLACE] == 0 ? 0 : ends_near(d, 15));
+    saved[PORT_ZERO] = 0;
+}
+
 void draw_machine(struct dice *d, const struct lean *lean, uint8_t *saved)
 {
     static const uint32_t costs[] = {6, 7, 20, 62, 63};
     unsigned at;
 
-    fill_with_bytes(d, saved, ZERO + 1);
+    fill_with_bytes(d, saved, PORT_ZERO + 1);
     for (at = 0x80; at <= 0xF0; at++) {
         saved[at] = 0;
     }
@@ -200,6 +225,7 @@ void draw_machine(struct dice *d, const struct lean *lean, uint8_t *saved)
     draw_working_registers(d, lean, saved);
     draw_stack(d, lean, saved);
     draw_timers(d, saved);
+    draw_serial(d, saved);
     saved[IRQ] &= 0x3F;
     if (!lean->requests) {
         saved[IMR] &= 0x7F;

@@ -30,7 +30,8 @@ struct lean {
     uint32_t image_length, data_length;
 };
 
-/* A legal saved machine (268 bytes). */
+/* A legal saved machine (276 bytes). Its serial port is on as often as not, and in any state that is legal.
+ */
 void draw_machine(struct dice *d, const struct lean *lean, uint8_t *saved);
 
 #endif

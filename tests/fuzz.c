@@ -37,6 +37,21 @@ static uint32_t next_word(struct input *in)
     return high * 256 + next_byte(in);
 }
 
+/* z8-requests.h, bytes 268 to 275. */
+static void make_port_legal(uint8_t *saved)
+{
+    uint8_t awaits = saved[Z8_AT_RECEIVER_AWAITS] % 10, place = saved[Z8_AT_SENDER_PLACE] % 12;
+
+    saved[Z8_AT_RECEIVER_AWAITS] = awaits;
+    saved[Z8_AT_RECEIVER_ENDS] =
+        (uint8_t)(awaits == 0 ? 0 : saved[Z8_AT_RECEIVER_ENDS] % (awaits == 1 ? 8 : 16));
+    saved[Z8_AT_RECEIVER_SHIFT] = awaits < 2 ? 0xFF : saved[Z8_AT_RECEIVER_SHIFT];
+    saved[Z8_AT_SENDER_PLACE] = place;
+    saved[Z8_AT_SENDER_ENDS] = (uint8_t)(place == 0 ? 0 : saved[Z8_AT_SENDER_ENDS] % 16);
+    saved[Z8_AT_SENDER_BITS] = place == 0 ? 0xFF : saved[Z8_AT_SENDER_BITS];
+    saved[Z8_AT_PORT_ZERO] = 0;
+}
+
 /* 01: "Legal: [...]"; what a legal machine can't hold is taken out. */
 static void make_legal(uint8_t *saved)
 {
@@ -55,6 +70,7 @@ static void make_legal(uint8_t *saved)
     saved[Z8_AT_TYPE] = saved[Z8_AT_TYPE] % 2 ? Z8_TYPE_Z8601 : Z8_TYPE_Z8611;
     saved[Z8_AT_ENTRY_COST] = (uint8_t)(6 + saved[Z8_AT_ENTRY_COST] % 58);
     saved[Z8_AT_ZERO] = 0;
+    make_port_legal(saved);
 }
 
 /* The control registers and what follows come first in the input, as most depends on them; then the working

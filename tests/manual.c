@@ -1,4 +1,4 @@
-/* The worked examples of the 1983 manual (source document 004), chapters 3, 4, 5, 10 and 11, each run by
+/* The worked examples of the 1983 manual (source document 004), chapters 3, 4, 5, 10, 11 and 12, each run by
    z8_step and by the reference. The numbers are the manual's. What a page leaves open (flags that it doesn't
    name, the type) is run both ways.
 
@@ -8,7 +8,7 @@
    in the second list with what is wrong.
 
    What can't be read: TCM's page, example and all, is lost; so are the drawings of chapters 3 and 4 (Figures
-   3-1 to 3-8, 4-1 to 4-8), which hold those chapters' examples, and the figures of 10 and 11. IRET, NOP, RCF
+   3-1 to 3-8, 4-1 to 4-8), which hold those chapters' examples, and the figures of 10 to 12. IRET, NOP, RCF
    and SCF have no example. "AND R, MASK performs a bit clear operation" (3.2) has no numbers. */
 #include <stdio.h>
 #include <string.h>
@@ -17,8 +17,8 @@
 #include "reference/machine.h"
 #include "reference/step.h"
 
-enum { TMR = 0xF1, T1 = 0xF2, PRE1 = 0xF3, T0 = 0xF4, PRE0 = 0xF5, P01M = 0xF8, IPR = 0xF9 };
-enum { IRQ = 0xFA, IMR = 0xFB, FLAGS = 0xFC, RP = 0xFD };
+enum { P3 = 0x03, SIO = 0xF0, TMR = 0xF1, T1 = 0xF2, PRE1 = 0xF3, T0 = 0xF4, PRE0 = 0xF5 };
+enum { P3M = 0xF7, P01M = 0xF8, IPR = 0xF9, IRQ = 0xFA, IMR = 0xFB, FLAGS = 0xFC, RP = 0xFD };
 
 enum { C = 0x80, Z = 0x40, S = 0x20, V = 0x10, D = 0x08, H = 0x04 };
 
@@ -44,6 +44,7 @@ static uint8_t saved[Z8_SAVED_LEN], image[MEMORY], data[MEMORY];
 static uint32_t last_cycles, all_ends0, all_ends1;
 
 typedef uint32_t stepper(uint8_t pins3);
+typedef void spanner(uint32_t cycles);
 
 static uint32_t step_of_library(uint8_t pins3)
 {
@@ -75,12 +76,35 @@ static uint32_t step_of_reference(uint8_t pins3)
     return answer;
 }
 
+static void span_of_library(uint32_t cycles)
+{
+    uint32_t ends0, ends1;
+
+    z8_span(saved, Z8_SAVED_LEN, cycles, &ends0, &ends1);
+    all_ends0 += ends0;
+    all_ends1 += ends1;
+}
+
+static void span_of_reference(uint32_t cycles)
+{
+    struct ref_machine m;
+    uint32_t ends0, ends1;
+
+    ref_load(&m, saved);
+    ref_span(&m, cycles, &ends0, &ends1);
+    ref_save(&m, saved);
+    all_ends0 += ends0;
+    all_ends1 += ends1;
+}
+
 struct engine {
     const char *name;
     stepper *step;
+    spanner *span;
 };
 
-static const struct engine engines[2] = {{"z8_step", step_of_library}, {"the reference", step_of_reference}};
+static const struct engine engines[2] = {{"the library", step_of_library, span_of_library},
+                                         {"the reference", step_of_reference, span_of_reference}};
 
 /* A new machine with working registers 16 to 31, nothing but NOPs in program memory. */
 static void new_machine(unsigned type)
@@ -527,6 +551,31 @@ static const struct misprint misprints[] = {
       "LD P3,#%40 / LD R0,P3 with T0 out",
       0x200, 2, 5, {0xE6, 0x03, 0x40, 0x08, 0x03},
       {REG(TMR, 0x40)}, {REG(0x03, 0x40), R(0, 0x4F)}}},
+    {"9.5.1",
+     "Port 3 outputs cannot be written if they are used for special functions.",
+     "C-11: P3's bit 7 takes stores as in 01 (HOUSE: other port stores go to the latch)",
+     "the latch takes the bit, and it reads so",
+     {"9.5.1",
+      "LD P3,#%80 / LD R0,P3 with the serial port on",
+      0x200, 2, 5, {0xE6, 0x03, 0x80, 0x08, 0x03},
+      {REG(P3M, 0x40)}, {REG(0x03, 0x80), R(0, 0x8F)}}},
+    {"12.1",
+     "a Serial I/O register SIO (%F1)",
+     "%F1 is TMR; 12.3, 12.4 and 002 have SIO at %F0",
+     "a store to %F0 begins a send",
+     {"12.1",
+      "LD %F0,#%4D with the serial port on",
+      0x200, 1, 3, {0xE6, 0xF0, 0x4D},
+      {REG(P3M, 0x40)}, {REG(Z8_AT_SENDER_PLACE, 1), REG(Z8_AT_SENDER_BITS, 0x4D), REG(TMR, 0)}}},
+    {"12.2",
+     "[PRE_0] should therefore be set to the Continuous mode (D_1 set to 1).",
+     "11.3.2 has D_0 for it, and %9D, which the same page gives, has D_0 set and D_1 clear",
+     "%9D is a modulo of 39 and Continuous mode: T_0 is loaded with 2 and goes on after its end",
+     {"12.2",
+      "LD PRE0,#%9D / LD T0,#%02 / LD TMR,#%03 and 51 NOPs: 10 + 51 x 6 cycles since the load, T_0's end "
+      "after 2 x 39 x 4 = 312 and one tick more",
+      0x200, 54, 9, {0xE6, PRE0, 0x9D, 0xE6, T0, 0x02, 0xE6, TMR, 0x03},
+      {NOTHING}, {REG(TMR, 0x02), REG(Z8_AT_T0_COUNTER, 2), REG(Z8_AT_T0_PRESCALER, 38)}}},
     {"3.2.1, DJNZ",
      "Only registers R4-R127 can be used with this instruction [...] undefined results.",
      "01 has no such limit: registers follow the register rules",
@@ -890,6 +939,319 @@ static void check_t_in(const struct engine *engine)
     check_gate(engine);
 }
 
+/* ---- Chapter 12 ---- */
+
+/* The serial port on or off by P3M, T0 continuous and fresh from a load of p and t. */
+static void new_port(unsigned p3m, unsigned p, unsigned t)
+{
+    new_machine(Z8_TYPE_Z8611);
+    saved[P3M] = (uint8_t)p3m;
+    saved[PRE0] = (uint8_t)(p * 4 + 1);
+    saved[T0] = (uint8_t)t;
+    saved[TMR] = 0x02;
+    saved[Z8_AT_T0_PRESCALER] = (uint8_t)p;
+    saved[Z8_AT_T0_COUNTER] = (uint8_t)t;
+}
+
+/* LD dst,#byte. T0's ends are counted from here. */
+static void load(const struct engine *engine, unsigned dst, unsigned byte, uint8_t pins3)
+{
+    image[0x300] = 0xE6;
+    image[0x301] = (uint8_t)dst;
+    image[0x302] = (uint8_t)byte;
+    set_pc(0x300);
+    all_ends0 = 0;
+    engine->step(pins3);
+}
+
+/* 12.2: "bit rate = XTAL frequency / (2 x 4 x p x t x 16)". Table 12-1, by its columns; the frequencies in
+   units of 100 Hz. The line of 110 is as near as the crystals come, the others are exact. */
+struct rate {
+    unsigned long rate, crystal;
+    unsigned p, t;
+};
+
+static const struct rate rates[] = {
+    {19200, 73728, 3, 1},  {9600, 73728, 3, 2},   {4800, 73728, 3, 4},   {2400, 73728, 3, 8},
+    {1200, 73728, 3, 16},  {600, 73728, 3, 32},   {300, 73728, 3, 64},   {150, 73728, 3, 128},
+    {110, 73728, 3, 175},  {4800, 79872, 13, 1},  {2400, 79872, 13, 2},  {1200, 79872, 13, 4},
+    {600, 79872, 13, 8},   {300, 79872, 13, 16},  {150, 79872, 13, 32},  {110, 79872, 3, 189},
+    {19200, 98304, 4, 1},  {9600, 98304, 4, 2},   {4800, 98304, 4, 4},   {2400, 98304, 4, 8},
+    {1200, 98304, 4, 16},  {600, 98304, 4, 32},   {300, 98304, 4, 64},   {150, 98304, 4, 128},
+    {110, 98304, 4, 175},  {9600, 110592, 9, 1},  {4800, 110592, 9, 2},  {2400, 110592, 9, 4},
+    {1200, 110592, 9, 8},  {600, 110592, 9, 16},  {300, 110592, 9, 32},  {150, 110592, 9, 64},
+    {110, 110592, 5, 157}, {4800, 116736, 19, 1}, {2400, 116736, 19, 2}, {1200, 116736, 19, 4},
+    {600, 116736, 19, 8},  {300, 116736, 19, 16}, {150, 116736, 19, 32}, {110, 116736, 4, 207},
+    {2400, 119808, 39, 1}, {1200, 119808, 39, 2}, {600, 119808, 39, 4},  {300, 119808, 39, 8},
+    {150, 119808, 39, 16}, {110, 119808, 17, 50}, {19200, 122880, 5, 1}, {9600, 122880, 5, 2},
+    {4800, 122880, 5, 4},  {2400, 122880, 5, 8},  {1200, 122880, 5, 16}, {600, 122880, 5, 32},
+    {300, 122880, 5, 64},  {150, 122880, 5, 128}, {110, 122880, 8, 109},
+};
+
+/* Two internal clocks are one of the crystal, so that rate x 2 x the cycles of a bit is its frequency. The
+   cycles are measured: %55 changes the line with every bit up to the first stop bit. */
+static void check_rate(const struct engine *engine, const struct rate *r)
+{
+    uint32_t bit = 0;
+    unsigned long per_second;
+    unsigned k;
+
+    new_port(0x40, r->p, r->t);
+    saved[TMR] = 0;
+    load(engine, SIO, 0x55, 0xFF);
+    saved[TMR] = 0x02;
+    saved[Z8_AT_DIVIDER] = 0;
+    while (z8_p37(saved) == 0 && bit < 200000) {
+        engine->span(4);
+        bit += 4;
+    }
+    per_second = (r->crystal * 100 + bit) / (2ul * bit); /* to the nearest */
+    check(r->rate, per_second, engine->name, "Table 12-1", "the bit rate");
+    if (r->rate != 110) {
+        check(r->crystal * 100, r->rate * 2 * bit, engine->name, "Table 12-1", "the bit rate, exactly");
+    }
+    for (k = 2; k <= 9; k++) {
+        engine->span(bit - 1);
+        check((k - 1) % 2, z8_p37(saved), engine->name, "12.4", "one bit per shift clock, to its last cycle");
+        engine->span(1);
+        check(k % 2, z8_p37(saved), engine->name, "12.4", "one bit per shift clock");
+    }
+    check(0, saved[IRQ], engine->name, "12.4", "no request within the character");
+    engine->span(2 * bit - 1);
+    check(0, saved[IRQ], engine->name, "12.4", "no request within the stop bits");
+    engine->span(1);
+    check(0x10, saved[IRQ], engine->name, "12.4", "IRQ_4 after the second stop bit");
+}
+
+/* 12.2: "given an input clock frequency (f_XTAL) of 11.9808 MHz and a selected bit rate of 1200 bits per
+   second, the equation is satisfied by p=39 and t=2. Counter/timer T_0 should be set to %02. [...] the value
+   of PRE_0 becomes %9D." "The bit rate generator is started by setting the Timer Mode register TMR (%F1) bits
+   D_1 and D_0 both to 1". */
+static void check_1200(const struct engine *engine)
+{
+    new_machine(Z8_TYPE_Z8611);
+    load(engine, P3M, 0x40, 0xFF);
+    load(engine, T0, 0x02, 0xFF);
+    load(engine, PRE0, 0x9D, 0xFF);
+    load(engine, SIO, 0x01, 0xFF);
+    load(engine, TMR, 0x03, 0xFF); /* 40 cycles are over, so the divider is 0; its own 10 are the bit's */
+    check(0, z8_p37(saved), engine->name, "12.2", "the start bit");
+    engine->span(11980800 / 2 / 1200 - 10 - 1);
+    check(0, z8_p37(saved), engine->name, "12.2", "to its last cycle");
+    engine->span(1);
+    check(1, z8_p37(saved), engine->name, "12.2", "1200 bits per second");
+    engine->span(11980800 / 2 / 1200 - 1);
+    check(1, z8_p37(saved), engine->name, "12.2", "and so the next");
+    engine->span(1);
+    check(0, z8_p37(saved), engine->name, "12.2", "1200 bits per second");
+}
+
+/* Characters as they stand in time on a line: the start bit, D_0 to D_7, two stop bits (Figures 12-8 and
+   12-10; 02: "low bit first"), worked out by hand from the digits of the byte. */
+struct sent {
+    uint8_t written;     /* to the transmitter */
+    const char *without; /* on P37 without parity */
+    const char *with;    /* and with it */
+};
+
+static const struct sent sent[] = {
+    {0x4D, "01011001011", "01011001111"}, /* 1001101 has four ones, so D_7 is a fifth */
+    {0x43, "01100001011", "01100001011"}, /* 1000011 has three */
+    {0xC3, "01100001111", "01100001011"}, /* so has this, and its D_7 is replaced */
+    {0xB2, "00100110111", "00100110011"}, /* 0110010 has three */
+    {0x00, "00000000011", "00000000111"}, /* none */
+    {0x80, "00000000111", "00000000111"}, /* none but D_7, which is replaced by its like */
+    {0x7F, "01111111011", "01111111011"}, /* seven */
+    {0xFF, "01111111111", "01111111011"}, /* seven, and D_7 is replaced */
+};
+
+/* 12.4: "The transmitter then outputs one bit per shift clock, through Port 3 pin P3_7, until a start bit,
+   the character written to the buffer, and two stop bits have been transmitted. [...] the output is again
+   forced to a marking state. Interrupt request IRQ_4 is generated". 12.4.2: "If parity is on, bit D_7 of the
+   data transmitted will be replaced by an odd parity bit." 12.2: T_0's end-of-count "no longer generates
+   interrupt request IRQ_4". Eleven bits of 16 ends are 176. */
+static void check_sent(const struct engine *engine, unsigned written, unsigned p3m, const char *line)
+{
+    new_port(p3m, 3, 1);
+    check(1, z8_p37(saved), engine->name, "12.4", "a marking state");
+    load(engine, SIO, written, 0xFF);
+    while (all_ends0 < 176) {
+        check(line[all_ends0 / 16] == '1', z8_p37(saved), engine->name, "12.4", line);
+        check(0, saved[IRQ], engine->name, "12.2", "T_0's end-of-count generates no IRQ_4");
+        engine->step(0xFF);
+    }
+    check(176, all_ends0, engine->name, "12.4", "the 176th end");
+    check(0x10, saved[IRQ], engine->name, "12.4", "IRQ_4 is generated");
+    check(1, z8_p37(saved), engine->name, "12.4", "again a marking state");
+}
+
+struct received {
+    const char *line;
+    uint8_t without, with; /* in SIO, without parity and with it */
+};
+
+static const struct received received[] = {
+    {"01011001011", 0x4D, 0xCD}, /* four ones: a parity error */
+    {"01011001111", 0xCD, 0x4D}, /* five */
+    {"01100001011", 0x43, 0x43}, /* three */
+    {"01100001111", 0xC3, 0xC3}, /* four: an error */
+    {"00100110111", 0xB2, 0xB2}, /* four: an error */
+    {"00000000011", 0x00, 0x80}, /* none: an error */
+    {"00000000111", 0x80, 0x00}, /* one */
+    {"01111111011", 0x7F, 0x7F}, /* seven */
+    {"01111111111", 0xFF, 0xFF}, /* eight: an error */
+};
+
+/* A character on P3_0 from its start edge to the 8 + 8 x 16 = 136th end, in the middle of D_7. */
+static void receive(const struct engine *engine, const char *line)
+{
+    all_ends0 = 0;
+    while (all_ends0 < 136) {
+        check(0, saved[IRQ], engine->name, "12.3.1", "no request before the character is assembled");
+        engine->step(line[all_ends0 / 16] == '1' ? 0xFF : 0xFE);
+    }
+}
+
+/* 12.3.1: "when the count equals 8, the divider outputs a shift clock", "the data is shifted into the Shift
+   register every sixteen counts until a full character is assembled", "the data is transferred to the
+   receiver's buffer, SIO
+   (%F0), and interrupt request IRQ_3 is generated. The shift clock is stopped and the Shift register reset to
+   all 1s." 12.3.4: "A parity error sets D_7 to 1; otherwise, D_7 is set to 0." 12.3.2: "it is not protected
+   from being overwritten". */
+static void check_received(const struct engine *engine, const struct received *r, unsigned p3m)
+{
+    const unsigned byte = p3m & 0x80 ? r->with : r->without;
+    unsigned turn;
+
+    new_port(p3m, 3, 1);
+    saved[Z8_AT_RECEIVED] = 0x26;
+    for (turn = 0; turn < 2; turn++) {
+        engine->step(0xFF);
+        receive(engine, r->line);
+        check(136, all_ends0, engine->name, "12.3.1", "the 136th end");
+        check(0x08, saved[IRQ], engine->name, "12.3.1", "IRQ_3 is generated");
+        check(0xFF, saved[Z8_AT_RECEIVER_SHIFT], engine->name, "12.3.1",
+              "the Shift register reset to all 1s");
+        saved[IRQ] = 0;
+        while (all_ends0 < 176) {
+            engine->step(0xFF);
+        }
+        image[0x300] = 0x08; /* LD R0,SIO */
+        image[0x301] = SIO;
+        set_pc(0x300);
+        engine->step(0xFF);
+        check(byte, saved[0x10], engine->name, "12.3.4", r->line);
+        saved[Z8_AT_RECEIVED] = 0x62; /* the second time it replaces this */
+    }
+}
+
+/* 12.3.1: "Before the shift actually occurs, the input is rechecked to ensure that the start bit is valid. If
+   the detected start bit is false, the receiver is reset and the process of looking for a start bit is
+   repeated." */
+static void check_false_start(const struct engine *engine)
+{
+    new_port(0x40, 3, 1);
+    all_ends0 = 0;
+    while (all_ends0 < 7) {
+        engine->step(0xFE);
+    }
+    while (all_ends0 < 400) {
+        engine->step(0xFF);
+    }
+    check(0, saved[IRQ], engine->name, "12.3.1", "a false start bit is no character");
+    receive(engine, "00000000111");
+    check(0x80, saved[Z8_AT_RECEIVED], engine->name, "12.3.1", "looking for a start bit is repeated");
+    check(0x08, saved[IRQ], engine->name, "12.3.1", "and found");
+}
+
+/* 12.3.3: "by responding to the interrupt request within one character bit time, the software can test for a
+   stop bit at P3_0. [...] if a null character is received, testing P3_0 results in a 0 being read", that is
+   in a break. 12.4.2: "Each time the SIO is loaded, the divide-by-16 counter is re-synchronized and a new
+   start bit is output followed by data", so nulls written before the stop bits make a break: here every 144
+   ends, P3_7 being wired to P3_0. */
+static void check_break(const struct engine *engine)
+{
+    unsigned characters;
+
+    new_port(0x40, 3, 1);
+    saved[Z8_AT_RECEIVED] = 0x26;
+    for (characters = 0; characters < 3; characters++) {
+        load(engine, SIO, 0, z8_p37(saved) ? 0xFF : 0xFE);
+        while (all_ends0 < 143) {
+            check(0, z8_p37(saved), engine->name, "12.4.2", "a break signal");
+            engine->step(z8_p37(saved) ? 0xFF : 0xFE);
+        }
+        check(0, saved[Z8_AT_RECEIVED], engine->name, "12.3.3", "a null character is received");
+        check(characters == 0 ? 0x08 : 0, saved[IRQ], engine->name, "12.3.1",
+              "a start bit is a High-to-Low transition");
+        saved[IRQ] = 0;
+    }
+    image[0x300] = 0x76; /* TM P3,#%01 */
+    image[0x301] = P3;
+    image[0x302] = 0x01;
+    set_pc(0x300);
+    engine->step(0xFE);
+    check(Z, saved[FLAGS] & Z, engine->name, "12.3.3", "testing P3_0 results in a 0 being read");
+}
+
+/* 10.2.1: "IRQ_3 can be generated from an external source only if Serial In is not enabled; otherwise, its
+   source is internal." 10.2.2: IRQ_4 has "two mutually exclusive sources". (9.5.2 has the input lines "always
+   function as interrupt requests regardless of the configuration specified in the Port 3 Mode register"; 02
+   decides.) */
+static void check_sources(const struct engine *engine)
+{
+    new_port(0x00, 1, 1);
+    load(engine, 0x20, 0, 0xFE);
+    check(1, all_ends0 > 0, engine->name, "10.2.2", "T_0 ends");
+    check(0x18, saved[IRQ], engine->name, "10.2.1",
+          "without serial I/O: P3_0's edge, and T_0's end-of-count");
+    new_port(0x40, 1, 1);
+    load(engine, 0x20, 0, 0xFE);
+    check(1, all_ends0 > 0, engine->name, "10.2.2", "T_0 ends");
+    check(0x00, saved[IRQ], engine->name, "10.2.1", "with it neither");
+}
+
+/* 12.5: "After a hardware reset, [...] Serial mode and parity are disabled." 12.3.1: "the Receiver Shift
+   register is initialized to all 1s and the shift clock is stopped". 12.4: "forced to a marking state". */
+static void check_ports_reset(void)
+{
+    new_port(0xC0, 1, 1);
+    engines[0].step(0xFF);
+    load(&engines[0], SIO, 0x12, 0xFE);
+    engines[0].span(4 * 60);
+    check(1, saved[Z8_AT_RECEIVER_AWAITS] > 1, "z8_reset", "12.5", "a character coming in");
+    check(1, saved[Z8_AT_SENDER_PLACE] > 1, "z8_reset", "12.5", "and one going out");
+    check(0, z8_reset(saved, Z8_SAVED_LEN), "z8_reset", "12.5", "the answer");
+    check(0, saved[P3M] & 0xC0, "z8_reset", "12.5", "Serial mode and parity are disabled");
+    check(0xFF, saved[Z8_AT_RECEIVER_SHIFT], "z8_reset", "12.3.1",
+          "the Receiver Shift register is initialized to all 1s");
+    check(0, saved[Z8_AT_RECEIVER_AWAITS], "z8_reset", "12.3.1", "the shift clock is stopped");
+    check(0, saved[Z8_AT_SENDER_PLACE], "z8_reset", "12.4", "nothing goes out");
+    saved[P3M] = 0x40;
+    check(1, z8_p37(saved), "z8_reset", "12.4", "a marking state");
+}
+
+static void check_serial(const struct engine *engine)
+{
+    size_t k;
+
+    for (k = 0; k < sizeof rates / sizeof rates[0]; k++) {
+        check_rate(engine, &rates[k]);
+    }
+    check_1200(engine);
+    for (k = 0; k < sizeof sent / sizeof sent[0]; k++) {
+        check_sent(engine, sent[k].written, 0x40, sent[k].without);
+        check_sent(engine, sent[k].written, 0xC0, sent[k].with);
+    }
+    for (k = 0; k < sizeof received / sizeof received[0]; k++) {
+        check_received(engine, &received[k], 0x40);
+        check_received(engine, &received[k], 0xC0);
+    }
+    check_false_start(engine);
+    check_break(engine);
+    check_sources(engine);
+}
+
 static void print_misprints(void)
 {
     size_t k;
@@ -922,7 +1284,9 @@ int main(int argc, char **argv)
         check_priorities(&engines[k]);
         check_cascade(&engines[k]);
         check_t_in(&engines[k]);
+        check_serial(&engines[k]);
     }
+    check_ports_reset();
     check_prescaler_sequence();
     check_end_of_count(0);
     check_end_of_count(1);

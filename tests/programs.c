@@ -110,6 +110,32 @@ static const struct program programs[PROGRAMS] = {
          {0x32, 2, {0xD3, 0x26}}, /*       LDCI @RR6,@R2 */
          {0x34, 2, {0x8B, 0xD8}}, /*       JR   LOOP */
      }},
+    {"z8_run, what comes in on P30 goes out on P37, by requests 3 and 4",
+     {
+         {0x06, 2, {0x00, 0x40}},       /* IRQ3 */
+         {0x08, 2, {0x00, 0x50}},       /* IRQ4 */
+         {0x0C, 2, {0x31, 0x10}},       /*       SRP  #%10 */
+         {0x0E, 3, {0xE6, 0xFF, 0x70}}, /*       LD   SPL,#%70 */
+         {0x11, 3, {0xE6, 0xF5, 0x05}}, /*       LD   PRE0,#%05   one, repeating */
+         {0x14, 3, {0xE6, 0xF4, 0x03}}, /*       LD   T0,#3 */
+         {0x17, 3, {0xE6, 0xF7, 0x40}}, /*       LD   P3M,#%40    on, without parity */
+         {0x1A, 3, {0xE6, 0xF9, 0x08}}, /*       LD   IPR,#%08 */
+         {0x1D, 3, {0xE6, 0xFB, 0x18}}, /*       LD   IMR,#%18    requests 3 and 4 */
+         {0x20, 3, {0xE6, 0xF1, 0x43}}, /*       LD   TMR,#%43    load and count T0, T0 out */
+         {0x23, 1, {0x9F}},             /*       EI */
+         {0x24, 2, {0xA0, 0xE2}},       /* LOOP: INCW RR2 */
+         {0x26, 2, {0xA8, 0xF0}},       /*       LD   R10,SIO */
+         {0x28, 2, {0x8B, 0xFA}},       /*       JR   LOOP */
+         {0x40, 2, {0x48, 0xF0}},       /* IN:   LD   R4,SIO */
+         {0x42, 2, {0x49, 0xF0}},       /*       LD   SIO,R4      what was still going out is lost */
+         {0x44, 1, {0x5E}},             /*       INC  R5 */
+         {0x45, 3, {0xA6, 0xE5, 0x05}}, /*       CP   R5,#5 */
+         {0x48, 2, {0xEB, 0x03}},       /*       JR   NE,ON */
+         {0x4A, 3, {0xE6, 0xF7, 0xC0}}, /*       LD   P3M,#%C0    with parity from the fifth on */
+         {0x4D, 1, {0xBF}},             /* ON:   IRET */
+         {0x50, 1, {0x6E}},             /* OUT:  INC  R6 */
+         {0x51, 1, {0xBF}},             /*       IRET */
+     }},
 };
 
 const char *written_program(size_t which, uint8_t bytes[PROGRAM_SIZE])

@@ -10,10 +10,18 @@ static const char *const control_names[16] = {
     "P01M", "IPR", "IRQ",      "IMR",  "FLAGS",    "RP",   "SPH", "SPL",
 };
 
-/* 01, "Numbers the encoder sees": bytes 256 to 267. */
-static const char *const other_names[12] = {
-    "PC high",    "PC low",           "divider", "T0 prescaler", "T0 counter", "T1 prescaler",
-    "T1 counter", "last Port 3 pins", "T_OUT",   "type",         "entry cost", "byte 267",
+/* 01, "Numbers the encoder sees": bytes 256 to 267; z8-requests.h: bytes 268 to 275. */
+static const char *const other_names[20] = {
+    "PC high",         "PC low",
+    "divider",         "T0 prescaler",
+    "T0 counter",      "T1 prescaler",
+    "T1 counter",      "last Port 3 pins",
+    "T_OUT",           "type",
+    "entry cost",      "byte 267",
+    "received byte",   "receiver's shift",
+    "receiver awaits", "receiver's ends",
+    "sender's bits",   "sender's place",
+    "sender's ends",   "byte 275",
 };
 
 const char *name_of_saved_byte(size_t at)
@@ -63,7 +71,9 @@ static void print_given(const struct given *g)
     printf("  working registers:");
     print_row(g, g->saved[0xFD] & 0xF0u, (g->saved[0xFD] & 0xF0u) + 16);
     printf("  PC, divider, T0, T1, last pins, T_OUT, type, entry cost, 0:");
-    print_row(g, 256, Z8_SAVED_LEN);
+    print_row(g, 256, Z8_AT_RECEIVED);
+    printf("  received byte, receiver's shift, awaits, ends, sender's bits, place, ends, 0:");
+    print_row(g, Z8_AT_RECEIVED, Z8_SAVED_LEN);
 }
 
 /* Each byte that moved, or should have: before, expected, found. */
@@ -117,6 +127,10 @@ static int tell_if_different(const struct outcome *expected, const struct outcom
     if (expected->written_outside != found->written_outside) {
         print_head("bytes written around the saved machine", expected->written_outside,
                    found->written_outside);
+        return 1;
+    }
+    if (expected->p37 != found->p37) {
+        print_head("the level on P37", expected->p37, found->p37);
         return 1;
     }
     if (expected->cycles != found->cycles) {

@@ -30,10 +30,11 @@ struct outcome {
     const uint8_t *data; /* as it is after, also past what was lent */
     size_t data_size;
     uint32_t cycles, ends0, ends1;
+    uint32_t p37;             /* the level on P37 after a call that wasn't refused */
     unsigned written_outside; /* bytes around the saved machine that didn't stay */
 };
 
-/* The name that 01 gives to a byte of the saved machine. */
+/* The name that 01 or z8-requests.h gives to a byte of the saved machine. */
 const char *name_of_saved_byte(size_t at);
 
 /* 1 where both are equal in every byte and number; else 0, and the first difference is printed. */

@@ -9,8 +9,8 @@
 #include "reference/machine.h"
 
 /* Register places, by 002. */
-enum { TMR = 0xF1, PRE1 = 0xF3, PRE0 = 0xF5, P01M = 0xF8, IPR = 0xF9, IRQ = 0xFA, IMR = 0xFB };
-enum { FLAGS = 0xFC, RP = 0xFD, SPH = 0xFE, SPL = 0xFF };
+enum { SIO = 0xF0, TMR = 0xF1, PRE1 = 0xF3, PRE0 = 0xF5, P3M = 0xF7, P01M = 0xF8, IPR = 0xF9 };
+enum { IRQ = 0xFA, IMR = 0xFB, FLAGS = 0xFC, RP = 0xFD, SPH = 0xFE, SPL = 0xFF };
 
 static const char *const kind_names[KINDS] = {
     "grants",
@@ -51,16 +51,50 @@ static const char *const kind_names[KINDS] = {
     "RP stored",
     "no image",
     "no data",
+    "start bits found",
+    "edges of P30 in a character",
+    "edges of P30 with the port off",
+    "false starts",
+    "start bits looked at again",
+    "bits received",
+    "bytes received",
+    "parity errors",
+    "parities without an error",
+    "sends begun",
+    "parities put in",
+    "sends overwritten",
+    "sends begun by a grant",
+    "stores to F0 dropped",
+    "sends done",
+    "requests 3 of the port",
+    "requests 4 of the port",
+    "bytes received and sent in one step",
+    "ends of T0 without a request 4",
+    "ends of T0 with the port off and a byte under way",
+    "switches on with a byte under way",
+    "switches off with a byte under way",
+    "many ends of the port",
+    "single passes with the port on",
     "runs with ends",
     "runs over their budget",
     "runs stopped by 5",
     "runs stopped at once",
+    "runs to a byte received",
+    "runs to a byte sent",
     "spans to ends of T0",
     "spans to ends of T1",
     "spans without an end",
     "spans over a single pass",
     "spans that flip T_OUT",
     "spans with a closed gate",
+    "spans over a false start",
+    "spans to a byte received",
+    "spans to a byte sent",
+    "spans to both",
+    "spans with the port off and a byte under way",
+    "spans with the port on and nothing under way",
+    "long spans to a byte received",
+    "long spans to a byte sent",
     "machines refused",
     "machines passed",
 };
@@ -87,11 +121,17 @@ static unsigned opcode_of(const struct given *g)
     return ref_program(g->image, g->image_length, (uint16_t)pc_of(g));
 }
 
+/* 02, C-11: "active when P3M bit 6 is set". */
+static int port_is_on(const uint8_t *saved)
+{
+    return (saved[P3M] & 0x40) != 0;
+}
+
 /* Requests that stand when a grant is decided, less an edge's end of T1. 01: "falling edges on P32, P33, P31,
-   P30 latch requests 0, 1, 2, 3". */
+   P30 latch requests 0, 1, 2, 3"; 02, C-11: 3 "not from P30" while the port is on. */
 static unsigned requests_standing(const struct given *g)
 {
-    unsigned fell = g->saved[Z8_AT_PORT3] & ~g->pins[3] & 0x0Fu;
+    unsigned fell = g->saved[Z8_AT_PORT3] & ~g->pins[3] & (port_is_on(g->saved) ? 0x0Eu : 0x0Fu);
 
     return g->saved[IRQ] | (fell >> 2 & 1) | (fell >> 2 & 2) | (fell << 1 & 4) | (fell << 3 & 8);
 }
@@ -254,6 +294,83 @@ static void see_instruction(const struct given *g, const struct outcome *after)
     saw(RP_STORED, g->saved[RP] != after->saved[RP]);
 }
 
+/* ---- The serial port ---- */
+
+/* The receiver goes back to waiting from a data bit by a byte received alone, and from the start bit's
+   middle, in less than 136 ends, by a false start alone. */
+static int byte_received(const uint8_t *before, const uint8_t *after)
+{
+    return before[Z8_AT_RECEIVER_AWAITS] > 1 && after[Z8_AT_RECEIVER_AWAITS] < before[Z8_AT_RECEIVER_AWAITS];
+}
+
+/* Nothing else brings P37 back to nothing. */
+static int byte_sent(const uint8_t *before, const uint8_t *after)
+{
+    return before[Z8_AT_SENDER_PLACE] > 0 && after[Z8_AT_SENDER_PLACE] == 0;
+}
+
+static int under_way(const uint8_t *saved)
+{
+    return saved[Z8_AT_RECEIVER_AWAITS] > 0 || saved[Z8_AT_SENDER_PLACE] > 0;
+}
+
+static int request_is_new(const uint8_t *before, const uint8_t *after, int request)
+{
+    return !(before[IRQ] >> request & 1) && (after[IRQ] >> request & 1);
+}
+
+static void see_receiver(const struct given *g, const struct outcome *after)
+{
+    unsigned before = g->saved[Z8_AT_RECEIVER_AWAITS], now = after->saved[Z8_AT_RECEIVER_AWAITS];
+    int fell = (g->saved[Z8_AT_PORT3] & ~g->pins[3] & 1) != 0, parity = after->saved[P3M] & 0x80;
+    int received = byte_received(g->saved, after->saved);
+
+    saw(START_EDGES, fell && port_is_on(g->saved) && before == 0 && now == 1);
+    saw(EDGES_IN_CHARACTERS, fell && port_is_on(g->saved) && before > 0);
+    saw(P30_REQUESTS, fell && !port_is_on(g->saved));
+    saw(FALSE_STARTS, before == 1 && now == 0);
+    saw(START_BITS, before == 1 && now == 2);
+    saw(DATA_BITS, before > 1 && now > before);
+    saw(RECEPTIONS, received);
+    saw(PARITY_ERRORS, received && parity && (after->saved[Z8_AT_RECEIVED] & 0x80));
+    saw(PARITY_FINE, received && parity && !(after->saved[Z8_AT_RECEIVED] & 0x80));
+    saw(PORT_REQUESTS_3, received && request_is_new(g->saved, after->saved, 3));
+}
+
+/* Nothing but a store brings the start bit onto P37. */
+static void see_sender(const struct given *g, const struct outcome *after)
+{
+    unsigned before = g->saved[Z8_AT_SENDER_PLACE], now = after->saved[Z8_AT_SENDER_PLACE], pc = pc_of(g);
+    int stores = !asks_for_grant(g) && opcode_of(g) == 0xE6
+                 && ref_program(g->image, g->image_length, (uint16_t)(pc + 1)) == SIO;
+    unsigned byte = ref_program(g->image, g->image_length, (uint16_t)(pc + 2));
+
+    saw(SENDS_BEGUN, before == 0 && now == 1);
+    saw(SENDS_OVERWRITTEN, before > 1 && now == 1);
+    saw(SENDS_BY_GRANT, before != 1 && now == 1 && asks_for_grant(g));
+    saw(PARITY_PUT_IN, stores && now == 1 && before != 1 && after->saved[Z8_AT_SENDER_BITS] != byte);
+    saw(SIO_DROPS, stores && !port_is_on(g->saved));
+    saw(SENDS_DONE, byte_sent(g->saved, after->saved));
+    saw(PORT_REQUESTS_4, byte_sent(g->saved, after->saved) && request_is_new(g->saved, after->saved, 4));
+}
+
+/* On or off before and after, as a step may switch. */
+static void see_port(const struct given *g, const struct outcome *after)
+{
+    int on = port_is_on(g->saved) && port_is_on(after->saved);
+    int off = !port_is_on(g->saved) && !port_is_on(after->saved);
+
+    see_receiver(g, after);
+    see_sender(g, after);
+    saw(BOTH_DONE, byte_received(g->saved, after->saved) && byte_sent(g->saved, after->saved));
+    saw(ENDS_ASK_NOTHING, on && after->ends0 > 0 && !(after->saved[IRQ] & 0x10));
+    saw(PORT_RESTS, off && after->ends0 > 0 && under_way(g->saved));
+    saw(SWITCHES_ON, !port_is_on(g->saved) && port_is_on(after->saved) && under_way(g->saved));
+    saw(SWITCHES_OFF, port_is_on(g->saved) && !port_is_on(after->saved) && under_way(g->saved));
+    saw(MANY_PORT_ENDS, on && after->ends0 > 1 && under_way(g->saved));
+    saw(PORT_SINGLE_PASSES, on && after->ends0 > 0 && !(g->saved[PRE0] & 1) && under_way(g->saved));
+}
+
 void see_step(const struct given *g, const struct outcome *after)
 {
     see_interrupts(g);
@@ -262,6 +379,7 @@ void see_step(const struct given *g, const struct outcome *after)
     see_data(g, after);
     see_loads(g);
     see_instruction(g, after);
+    see_port(g, after);
 }
 
 void see_run(const struct given *g, const struct outcome *after)
@@ -270,6 +388,8 @@ void see_run(const struct given *g, const struct outcome *after)
     saw(RUNS_OVER, after->answer == 0 && after->cycles > g->amount);
     saw(RUNS_STOPPED, after->answer == 5 && after->cycles > 0);
     saw(RUNS_STOPPED_AT_ONCE, after->answer == 5 && after->cycles == 0);
+    saw(RUN_RECEPTIONS, byte_received(g->saved, after->saved));
+    saw(RUN_SENDS, byte_sent(g->saved, after->saved));
 }
 
 void see_span(const struct given *g, const struct outcome *after)
@@ -283,6 +403,19 @@ void see_span(const struct given *g, const struct outcome *after)
         (after->ends0 && !(g->saved[PRE0] & 1)) || (after->ends1 && !(g->saved[PRE1] & 1)));
     saw(SPAN_T_OUT_FLIPS, after->saved[Z8_AT_T_OUT] != g->saved[Z8_AT_T_OUT]);
     saw(SPANS_GATED, gated && !(g->saved[Z8_AT_PORT3] & 2));
+    saw(SPAN_FALSE_STARTS, g->saved[Z8_AT_RECEIVER_AWAITS] == 1 && after->saved[Z8_AT_RECEIVER_AWAITS] == 0
+                               && (g->saved[Z8_AT_PORT3] & 1));
+    saw(SPAN_RECEPTIONS, byte_received(g->saved, after->saved));
+    saw(SPAN_SENDS, byte_sent(g->saved, after->saved));
+    saw(SPAN_BOTH_DONE, byte_received(g->saved, after->saved) && byte_sent(g->saved, after->saved));
+    saw(SPAN_PORT_RESTS, !port_is_on(g->saved) && after->ends0 > 0 && under_way(g->saved));
+    saw(SPAN_PORT_IDLE, port_is_on(g->saved) && after->ends0 > 0 && !under_way(g->saved));
+}
+
+void see_long_span(const struct given *g, const struct outcome *after)
+{
+    saw(LONG_RECEPTIONS, byte_received(g->saved, after->saved) && request_is_new(g->saved, after->saved, 3));
+    saw(LONG_SENDS, byte_sent(g->saved, after->saved) && request_is_new(g->saved, after->saved, 4));
 }
 
 void tell_what_happened(void)

@@ -576,9 +576,9 @@ static void save_serial(const struct ref_serial *s, uint8_t *saved)
    (z8-requests.h), and 6, "saved machine not legal", tested in this order.
    "Legal: divider 0 to 3; prescalers 1 to 64; entry cost 6 to 63; T_OUT 0 or
    1; type 1 or 11; byte 267 zero; places 80 to EF and F0 (hexadecimal) zero;
-   bits 0 and 2 of TMR, 6 and 7 of IRQ, and 0 to 3 of RP zero." F0's place "stays
-   in the legal list" (C-11). The port's bytes are legal by ref_serial_legal, and
-   275 is "zero". */
+   bits 0 and 2 of TMR, 6 and 7 of IRQ, and 0 to 3 of RP zero." F0's place
+   "stays in the legal list" (C-11). The port's bytes are legal by
+   ref_serial_legal, and 275 is "zero". */
 int ref_check(const uint8_t *saved, size_t length)
 {
     struct ref_serial serial;
