@@ -121,7 +121,7 @@ pub fn move_to(regs: &mut File, rest: &mut Rest, x: Moving)
     let tmr = machine::file::held(regs, names::TMR);
     let enabled = enabling(tmr, counting0.enabled, counting1.enabled);
     put(regs, rest, x);
-    lent::set_port(rest, port);
+    lent::set_port(regs, rest, port);
     machine::file::place(regs, names::TMR, enabled);
     machine::file::place(regs, names::IRQ, lines.irq);
 }

@@ -12,7 +12,7 @@ use timers::Timer;
 ghost use mathlib.Core.Path.{_≡_};
 ghost use Prim.Native.Nat.{_<_};
 ghost use lib.ListN.{length};
-ghost use Rattle.machine.specs.State.{withPc, withLast3, atPort, coreOf};
+ghost use Rattle.machine.specs.State.{withPc, withLast3, withPort, coreOf};
 ghost use Rattle.machine.specs.Clock.{countingAt};
 ghost use Rattle.lent.specs.View.{timerIn, byteIn, receiverIn, transmitterIn, coreIn, machineIn};
 
@@ -275,9 +275,9 @@ pub fn received(rest: &Rest) -> u8
     byte(rest, RECEIVED)
 }
 
-// The rest with this serial port.
-pub fn set_port(rest: &mut Rest, port: Port)
-    ensures { λ _. ⌜ coreIn (now (rest .exit)) ≡ atPort (coreIn (now (rest .entry))) port ⌝ }
+// The machine with another serial port.
+pub fn set_port(regs: &File, rest: &mut Rest, port: Port)
+    ensures { λ _. ⌜ machineIn (now (regs .entry)) (now (rest .exit)) ≡ withPort (machineIn (now (regs .entry)) (now (rest .entry))) port ⌝ }
 {
     long(rest);
     let receiver = port.receiver;

@@ -60,7 +60,7 @@ fn write_sio(regs: &File, rest: &mut Rest, v: u8)
             receiver,
             transmitter,
         };
-        lent::set_port(rest, after);
+        lent::set_port(regs, rest, after);
     }
 }
 

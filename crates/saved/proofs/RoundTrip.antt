@@ -16,7 +16,6 @@ use Rattle.word.specs.Fields.{bitOf, lower, wordOf, highByte, lowByte}
 use Rattle.word.proofs.Computed.{by-test, agree, and-left, and-right}
 use Rattle.serial.specs.Transmitter.{transmitterFits}
 use Rattle.serial.specs.Receiver.{receiverFits}
-use Rattle.serial.proofs.Tested.{legal-fits, fits-legal, receiver-fits, fits-receiver}
 use Rattle.timers.specs.Control.{orHighest}
 use Rattle.machine.specs.State.{heldIn}
 use Rattle.machine.specs.Clock.{movingOf}
@@ -267,8 +266,8 @@ module _ (s : List ℕ) (long : length s ≡ savedLength) (bytes : (i : ℕ) →
               irq-high = irq-small _ (file .bytes 0xFA) (file .places 0xFA);
               port-legal =
                   record {
-                    legal-receiver = fits-receiver _ (bytes 268) (bytes 269) (f .receiver);
-                    legal-transmitter = fits-legal _ (bytes 272) (f .transmitter);
+                    legal-receiver = record { received-byte = bytes 268; shift-byte = bytes 269; fits = f .receiver };
+                    legal-transmitter = record { bits-byte = bytes 272; fits = f .transmitter };
                   };
             };
         last3-byte = bytes 263;
@@ -420,8 +419,8 @@ module _ (m : Machine) (l : Legal m) where
       let legal = l .moving .port-legal in
       rw (back 12, back 13, back 14, back 15, back 16, back 17, back 18, back 19)
       (all-three (receiverFits (m .port .receiver)) (transmitterFits (m .port .transmitter)) true
-      (receiver-fits (m .port .receiver) (legal .legal-receiver))
-      (legal-fits (m .port .transmitter) (legal .legal-transmitter))
+      (legal .legal-receiver .fits)
+      (legal .legal-transmitter .fits)
       tt)
 
   pub legal-saves : T (legalOf (savedOf m))

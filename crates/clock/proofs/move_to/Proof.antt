@@ -16,6 +16,9 @@ enabling-requires c κs = search needs
 put-requires : tie.Need-put-requires
 put-requires c κs = search needs
 
+set-port-requires : tie.Need-set-port-requires
+set-port-requires c κs = search needs
+
 place-requires : tie.Need-place-requires
 place-requires c κs = search needs
 
@@ -25,15 +28,27 @@ place-requires-2 c κs = search needs
 returns : tie.Need-returns
 unfolding movedTo
 returns c =
-    let start = c .before .before .before .before .before .before .before .before .before .before .before .before .before in
-    let counts-put = c .before .before .before .before .put .ensures in
-    let enable-put = placed-is TMR (c .before .before .before .before .before .before .before .enabling .result) counts-put in
-    let requests-put = placed-is IRQ (start .args .x .lines .irq) enable-put in
-    let enabled = c .before .before .before .before .before .before .before .enabling .ensures in
-    let requests-stored : c .place2 .last .0 ≡ placedIn _ IRQ (start .args .x .lines .irq) = c .place2 .ensures in
-    rw (requests-stored, c .before .before .place .ensures, requests-put, enabled, c .before .before .before .before .before .before .before .before .held .ensures)
+    let enable : tie.After-place = c .before .before in
+    let ported : tie.After-set-port = enable .before .before in
+    let counted : tie.After-put = ported .before .before .before in
+    let enabling : tie.After-enabling = counted .before .before .before in
+    let read : tie.After-held = enabling .before in
+    let begun : tie.Start = read .before .before .before .before .before .before in
+    let x = begun .args .x in
+    let port-put = rw (counted .put .ensures) at (ported .set-port .ensures) in
+    let enable-put = placed-is TMR (enabling .enabling .result) port-put in
+    let requests-put = placed-is IRQ (x .lines .irq) enable-put in
+    let requests-stored : c .place2 .last .0 ≡ placedIn _ IRQ (x .lines .irq) = c .place2 .ensures in
+    rw (requests-stored, enable .place .ensures, requests-put, enabling .enabling .ensures, read .held .ensures)
 
 pub move-to-spec : {M : Type 1} → statement M
 move-to-spec =
     tie.close
-    (tie.spec held-requires enabling-requires put-requires place-requires place-requires-2 returns)
+    (tie.spec
+    held-requires
+    enabling-requires
+    put-requires
+    set-port-requires
+    place-requires
+    place-requires-2
+    returns)

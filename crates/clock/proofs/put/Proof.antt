@@ -9,12 +9,9 @@ set-counts-requires c κs = search needs
 set-tout-requires : tie.Need-set-tout-requires
 set-tout-requires c κs = search needs
 
-set-port-requires : tie.Need-set-port-requires
-set-port-requires c κs = search needs
-
 returns : tie.Need-returns
 unfolding countsAt
-returns c = rw (c .set-port .ensures, c .before .before .before .set-tout .ensures, c .before .before .before .before .before .set-counts .ensures)
+returns c = rw (c .set-tout .ensures, c .before .before .set-counts .ensures)
 
 pub put-spec : {M : Type 1} → statement M
-put-spec = tie.close (tie.spec set-counts-requires set-tout-requires set-port-requires returns)
+put-spec = tie.close (tie.spec set-counts-requires set-tout-requires returns)

@@ -1,6 +1,7 @@
 use borrow.Author.Needs.{needs}
 use Rattle.lent.proofs.set_port.Statement.{statement}
 use Rattle.lent.proofs.set_port.Tie as tie
+use Rattle.machine.specs.State.{withPort}
 use Rattle.lent.proofs.Seen.{PortBytes, port-set}
 
 long-requires : tie.Need-long-requires
@@ -49,11 +50,12 @@ element-write-rest-7 : tie.Need-element-write-rest-7
 element-write-rest-7 c = search needs
 
 returns : tie.Need-returns
+unfolding withPort
 returns c =
     let sized : tie.After-long = c .before .before .before .before .before .before .before .before .before in
     let p = sized .before .before .args .port in
     let bytes : PortBytes p = search needs in
-    port-set p bytes _ (sized .long .ensures)
+    rw (port-set p bytes _ (sized .long .ensures))
 
 pub set-port-spec : {M : Type 1} → statement M
 set-port-spec =
