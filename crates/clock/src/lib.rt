@@ -167,5 +167,8 @@ pub fn span(regs: &mut File, rest: &mut Rest, n: u32) -> Ends
         lent::set_counts(rest, x.divider, t0, t1);
         return Ends { ends0: 0, ends1: 0 };
     }
-    long_span(regs, rest, n)
+    let long = long_span(regs, rest, n);
+    let ends0 = long.ends0;
+    let ends1 = long.ends1;
+    Ends { ends0, ends1 }
 }

@@ -1,7 +1,7 @@
 -- Which machine the lent parts are, and what is left of them when a function ends: for the contracts of the code alone, nothing here has to be believed. A request that keeps something in
 -- another place changes what the view means, and no definition.
 use mathlib.Core.List.{List}
-use Prim.Native.Nat.{ℕ, _+_, _%_}
+use Prim.Native.Nat.{ℕ, _+_, _*_, _/_, _%_}
 use lib.Dec.{eqb}
 use lib.ListN.{getD}
 use Rattle.serial.specs.declared.Receiver.{Receiver}
@@ -17,15 +17,18 @@ use Rattle.machine.specs.declared.Core.{Core}
 abbrev pub timerIn : List ℕ → ℕ → Timer
 timerIn rest at = record { prescaler = getD rest at 0; counter = getD rest (at + 1) 0 }
 
--- the serial port's bytes, from place 10 on
-abbrev pub byteIn : List ℕ → ℕ → ℕ
-byteIn rest at = getD rest at 0 % 256
+-- a half of the serial port and its number, which has the half's bytes in the saved machine's order from the lowest up
+abbrev pub receiverNumber : Receiver → ℕ
+receiverNumber r = r .received + 256 * (r .shift + 256 * (r .awaited + 256 * r .ends))
 
-abbrev pub receiverIn : List ℕ → Receiver
-receiverIn rest = record { received = byteIn rest 10; shift = byteIn rest 11; awaited = byteIn rest 12; ends = byteIn rest 13 }
+abbrev pub receiverIn : ℕ → Receiver
+receiverIn n = record { received = n % 256; shift = n / 256 % 256; awaited = n / 256 / 256 % 256; ends = n / 256 / 256 / 256 % 256 }
 
-abbrev pub transmitterIn : List ℕ → Transmitter
-transmitterIn rest = record { bits = byteIn rest 14; place = byteIn rest 15; ends = byteIn rest 16 }
+abbrev pub transmitterNumber : Transmitter → ℕ
+transmitterNumber t = t .bits + 256 * (t .place + 256 * t .ends)
+
+abbrev pub transmitterIn : ℕ → Transmitter
+transmitterIn n = record { bits = n % 256; place = n / 256 % 256; ends = n / 256 / 256 % 256 }
 
 -- the rest of a machine, by place
 unfoldable pub coreIn : List ℕ → Core
@@ -39,7 +42,7 @@ coreIn rest =
       tout = eqb (getD rest 6 0) 1;
       kind = getD rest 8 0 % 256;
       cost = getD rest 9 0 % 256;
-      port = record { receiver = receiverIn rest; transmitter = transmitterIn rest };
+      port = record { receiver = receiverIn (getD rest 10 0); transmitter = transmitterIn (getD rest 11 0) };
     }
 
 -- the machine of a lent file and a lent rest

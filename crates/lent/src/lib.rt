@@ -12,12 +12,12 @@ use timers::Timer;
 ghost use mathlib.Core.Path.{_≡_};
 ghost use Prim.Native.Nat.{_<_};
 ghost use lib.ListN.{length};
-ghost use Rattle.machine.specs.State.{withPc, withLast3, withPort, coreOf};
+ghost use Rattle.machine.specs.State.{withPc, withLast3, withPort, withTransmitter, coreOf};
 ghost use Rattle.machine.specs.Clock.{countingAt};
-ghost use Rattle.lent.specs.View.{timerIn, byteIn, receiverIn, transmitterIn, coreIn, machineIn};
+ghost use Rattle.lent.specs.View.{timerIn, receiverNumber, receiverIn, transmitterNumber, transmitterIn, coreIn, machineIn};
 
 // All of a machine but its register file, by place.
-pub type Rest = [u32; 17];
+pub type Rest = [u32; 12];
 
 const PC: usize = 0;
 
@@ -35,28 +35,19 @@ const KIND: usize = 8;
 
 const COST: usize = 9;
 
-// The receiver's received byte, shift register, what it awaits, and ends; the transmitter's bits, place and ends.
-const RECEIVED: usize = 10;
+// The halves of the serial port, a number each, its bytes in the saved machine's order from the lowest up: where nothing ends they lie
+// still, and where they move it is one load and one store.
+const RECEIVER: usize = 10;
 
-const SHIFT: usize = 11;
-
-const AWAITED: usize = 12;
-
-const RECEIVER_ENDS: usize = 13;
-
-const BITS: usize = 14;
-
-const PLACE: usize = 15;
-
-const TRANSMITTER_ENDS: usize = 16;
+const TRANSMITTER: usize = 11;
 
 fn sized(rest: Rest)
-    ensures { λ _. ⌜ length rest ≡ 17 ⌝ }
+    ensures { λ _. ⌜ length rest ≡ 12 ⌝ }
 {}
 
 // How many places there are, for the proofs of what stores to one. It compiles to nothing.
 fn long(rest: &Rest)
-    ensures { λ _. ⌜ length (now (rest .entry)) ≡ 17 ⌝ }
+    ensures { λ _. ⌜ length (now (rest .entry)) ≡ 12 ⌝ }
 {
     let all = *rest;
     sized(all);
@@ -69,8 +60,8 @@ pub fn lend(m: Machine) -> Rest
     let t0 = m.t0;
     let t1 = m.t1;
     let port = m.port;
-    let receiver = port.receiver;
-    let transmitter = port.transmitter;
+    let receiver = receiver_number(port.receiver);
+    let transmitter = transmitter_number(port.transmitter);
     let tout = word::bits_if(m.tout, 1);
     [
         m.pc as u32,
@@ -83,13 +74,8 @@ pub fn lend(m: Machine) -> Rest
         m.last3 as u32,
         m.kind as u32,
         m.cost as u32,
-        receiver.received as u32,
-        receiver.shift as u32,
-        receiver.awaited as u32,
-        receiver.ends as u32,
-        transmitter.bits as u32,
-        transmitter.place as u32,
-        transmitter.ends as u32,
+        receiver,
+        transmitter,
     ]
 }
 
@@ -224,44 +210,47 @@ pub fn cost(rest: &Rest) -> u8
     (rest[COST] % 256) as u8
 }
 
-// The byte at a place of the serial port's.
-fn byte(rest: &Rest, at: usize) -> u8
-    requires { ⌜ at < 17 ⌝ }
-    ensures { λ r. ⌜ r ≡ byteIn (now (rest .entry)) at ⌝ }
+// The receiver as one number, and the transmitter.
+fn receiver_number(r: Receiver) -> u32
+    ensures { λ n. ⌜ n ≡ receiverNumber r ⌝ }
 {
-    (rest[at] % 256) as u8
+    r.received as u32 + 256 * (r.shift as u32 + 256 * (r.awaited as u32 + 256 * (r.ends as u32)))
 }
 
-fn receiver(rest: &Rest) -> Receiver
-    ensures { λ r. ⌜ r ≡ receiverIn (now (rest .entry)) ⌝ }
+fn transmitter_number(t: Transmitter) -> u32
+    ensures { λ n. ⌜ n ≡ transmitterNumber t ⌝ }
 {
-    let received = byte(rest, RECEIVED);
-    let shift = byte(rest, SHIFT);
-    let awaited = byte(rest, AWAITED);
-    let ends = byte(rest, RECEIVER_ENDS);
+    t.bits as u32 + 256 * (t.place as u32 + 256 * (t.ends as u32))
+}
+
+// And from their numbers.
+fn receiver(n: u32) -> Receiver
+    ensures { λ r. ⌜ r ≡ receiverIn n ⌝ }
+{
     Receiver {
-        received,
-        shift,
-        awaited,
-        ends,
+        received: (n % 256) as u8,
+        shift: (n / 256 % 256) as u8,
+        awaited: (n / 256 / 256 % 256) as u8,
+        ends: (n / 256 / 256 / 256 % 256) as u8,
     }
 }
 
-fn transmitter(rest: &Rest) -> Transmitter
-    ensures { λ r. ⌜ r ≡ transmitterIn (now (rest .entry)) ⌝ }
+fn transmitter(n: u32) -> Transmitter
+    ensures { λ t. ⌜ t ≡ transmitterIn n ⌝ }
 {
-    let bits = byte(rest, BITS);
-    let place = byte(rest, PLACE);
-    let ends = byte(rest, TRANSMITTER_ENDS);
-    Transmitter { bits, place, ends }
+    Transmitter {
+        bits: (n % 256) as u8,
+        place: (n / 256 % 256) as u8,
+        ends: (n / 256 / 256 % 256) as u8,
+    }
 }
 
 // The serial port.
 pub fn port(rest: &Rest) -> Port
     ensures { λ r. ⌜ r ≡ coreIn (now (rest .entry)) .port ⌝ }
 {
-    let receiver = receiver(rest);
-    let transmitter = transmitter(rest);
+    let receiver = receiver(rest[RECEIVER]);
+    let transmitter = transmitter(rest[TRANSMITTER]);
     Port {
         receiver,
         transmitter,
@@ -272,7 +261,7 @@ pub fn port(rest: &Rest) -> Port
 pub fn received(rest: &Rest) -> u8
     ensures { λ r. ⌜ r ≡ coreIn (now (rest .entry)) .port .receiver .received ⌝ }
 {
-    byte(rest, RECEIVED)
+    (rest[RECEIVER] % 256) as u8
 }
 
 // The machine with another serial port.
@@ -280,13 +269,17 @@ pub fn set_port(regs: &File, rest: &mut Rest, port: Port)
     ensures { λ _. ⌜ machineIn (now (regs .entry)) (now (rest .exit)) ≡ withPort (machineIn (now (regs .entry)) (now (rest .entry))) port ⌝ }
 {
     long(rest);
-    let receiver = port.receiver;
-    rest[RECEIVED] = receiver.received as u32;
-    rest[SHIFT] = receiver.shift as u32;
-    rest[AWAITED] = receiver.awaited as u32;
-    rest[RECEIVER_ENDS] = receiver.ends as u32;
-    let transmitter = port.transmitter;
-    rest[BITS] = transmitter.bits as u32;
-    rest[PLACE] = transmitter.place as u32;
-    rest[TRANSMITTER_ENDS] = transmitter.ends as u32;
+    let receiver = receiver_number(port.receiver);
+    let transmitter = transmitter_number(port.transmitter);
+    rest[RECEIVER] = receiver;
+    rest[TRANSMITTER] = transmitter;
+}
+
+// The machine with another transmitter.
+pub fn set_transmitter(regs: &File, rest: &mut Rest, t: Transmitter)
+    ensures { λ _. ⌜ machineIn (now (regs .entry)) (now (rest .exit)) ≡ withTransmitter (machineIn (now (regs .entry)) (now (rest .entry))) t ⌝ }
+{
+    long(rest);
+    let transmitter = transmitter_number(t);
+    rest[TRANSMITTER] = transmitter;
 }

@@ -22,7 +22,7 @@ use Rattle.serial.specs.declared.Port.{Port}
 use Rattle.serial.specs.declared.Mode.{Mode}
 use Rattle.serial.proofs.Theorems.{idle-legal, waiting-legal, stored-legal}
 use Rattle.timers.proofs.Legal.{setting-legal, written-legal, cycles-legal}
-use Rattle.machine.specs.State.{heldIn, placedIn, held, placed, withPc, withLast3, withPort}
+use Rattle.machine.specs.State.{heldIn, placedIn, held, placed, withPc, withLast3, withPort, withTransmitter}
 use Rattle.machine.specs.Ports.{masked, port0Directions, port1Directions, port2Directions, port3Directions, directionsOf, portStores, portReads, pinsOf, ofPort}
 use Rattle.machine.specs.Clock.{controlWith, controlOf, movingOf, enabling, countsAt, movedTo, writeTmr, spanOf, shown}
 use Rattle.machine.specs.Serial.{portMode, readSio, writeSio}
@@ -237,7 +237,7 @@ module _ {m : Machine} (l : Legal m) where
       (kept-may v hv)
 
   sio-legal : (v : ℕ) → v < 256 → Legal (writeSio m v)
-  unfolding writeSio
+  unfolding writeSio withTransmitter
   sio-legal v hv =
       let sends : LegalPort _ = record { legal-receiver = own-port .legal-receiver; legal-transmitter = stored-legal (portMode m .parity) v hv } in
       by-test Legal (portMode m .on) (λ t. with-port-legal _ l sends) (λ t. l)

@@ -27,7 +27,7 @@ use Rattle.serial.specs.declared.Mode.{Mode}
 use Rattle.serial.specs.declared.Ended.{Ended}
 use Rattle.timers.proofs.Formula.{formula}
 use Rattle.timers.proofs.Legal.{cycles-legal}
-use Rattle.machine.specs.State.{coreOf, held, placed, withPort}
+use Rattle.machine.specs.State.{coreOf, held, placed, withPort, withTransmitter}
 use Rattle.machine.specs.Clock.{Ran, controlOf, movingOf, countsAt, movedTo, writeTmr, shown, spanOf}
 use Rattle.machine.specs.Serial.{portMode, writeSio}
 use Rattle.machine.specs.Registers.{isHole, readReg, writePort, writeReg}
@@ -42,7 +42,7 @@ use Rattle.machine.proofs.Legal.{setting-of, irq-small}
 
 -- a store to register a leaves every other place
 pub store-leaves : (m : Machine) (a v b : ℕ) → b ≢ a → held (writeReg m a v) b ≡ held m b
-unfolding writeReg writePort writeTmr writeSio withPort countsAt placed
+unfolding writeReg writePort writeTmr writeSio withTransmitter withPort countsAt placed
 store-leaves m a v b n =
     by-test S (ltb a 0x04) (λ t. held-other (m .regs) a b _ n) (λ t.
     by-test S (isHole a) (λ u. by-test S (eqb a 0xF0) (λ e. by-test S (portMode m .on) (λ w. refl) (λ w. refl)) (λ e. refl)) (λ u.

@@ -10,7 +10,7 @@ use Rattle.word.proofs.Computed.{by-test}
 use Rattle.timers.specs.Clock.{written}
 use Rattle.word.proofs.Iterate.{iter-keeps}
 use Rattle.serial.specs.declared.Mode.{Mode}
-use Rattle.machine.specs.State.{placedIn, whole, placed, withPort}
+use Rattle.machine.specs.State.{placedIn, whole, placed, withPort, withTransmitter}
 use Rattle.machine.specs.Clock.{movingOf, countsAt, movedTo, writeTmr, Ran, shown, cycleOf, spanOf}
 use Rattle.machine.specs.Serial.{portMode, writeSio}
 use Rattle.machine.specs.Registers.{isHole, writePort, writeReg}
@@ -55,7 +55,7 @@ unfolding writeTmr countsAt placed written movingOf
 tmr-keeps m v = record { pc-kept = refl; divider-kept = refl; last3-kept = refl; kind-kept = refl; cost-kept = refl }
 
 sio-keeps : (m : Machine) (v : ℕ) → Keeps m (writeSio m v)
-unfolding writeSio withPort
+unfolding writeSio withTransmitter withPort
 sio-keeps m v =
     by-test (Keeps m) (portMode m .on)
     (λ t. record { pc-kept = refl; divider-kept = refl; last3-kept = refl; kind-kept = refl; cost-kept = refl })

@@ -5,7 +5,7 @@ use Rattle.serial.specs.Transmitter.{stored}
 use Rattle.serial.specs.declared.Mode.{Mode}
 use Rattle.timers.specs.Control.{modeOf}
 use Rattle.machine.specs.Names.{P3M}
-use Rattle.machine.specs.State.{held, withPort}
+use Rattle.machine.specs.State.{held, withTransmitter}
 use Rattle.machine.specs.declared.Machine.{Machine}
 
 -- P3M as it stands, and P30 as in the last pins
@@ -17,7 +17,4 @@ unfoldable pub readSio : Machine → ℕ
 readSio m = pick (portMode m .on) (m .port .receiver .received) 0xFF
 
 unfoldable pub writeSio : Machine → ℕ → Machine
-writeSio m v =
-    pick (portMode m .on)
-    (withPort m (record { receiver = m .port .receiver; transmitter = stored (portMode m .parity) v }))
-    m
+writeSio m v = pick (portMode m .on) (withTransmitter m (stored (portMode m .parity) v)) m

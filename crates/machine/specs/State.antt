@@ -4,6 +4,7 @@
 use mathlib.Core.List.{List}
 use Prim.Native.Nat.{ℕ}
 use lib.ListN.{getD, set}
+use Rattle.serial.specs.declared.Transmitter.{Transmitter}
 use Rattle.serial.specs.declared.Port.{Port}
 use Rattle.machine.specs.declared.Machine.{Machine}
 use Rattle.machine.specs.declared.Core.{Core}
@@ -107,3 +108,7 @@ atPort k port =
 
 unfoldable pub withPort : Machine → Port → Machine
 withPort m port = whole (m .regs) (atPort (coreOf m) port)
+
+-- and with another transmitter alone
+unfoldable pub withTransmitter : Machine → Transmitter → Machine
+withTransmitter m t = withPort m (record { receiver = m .port .receiver; transmitter = t })

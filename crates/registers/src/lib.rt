@@ -6,7 +6,6 @@ use lent::Rest;
 use machine::File;
 use machine::Pins;
 use machine::names;
-use serial::Port;
 use timers::Timer;
 ghost use mathlib.Core.Path.{_≡_};
 ghost use Rattle.word.specs.Fields.{lowByte};
@@ -51,16 +50,10 @@ fn write_sio(regs: &File, rest: &mut Rest, v: u8)
     ensures { λ _. ⌜ machineIn (now (regs .entry)) (now (rest .exit)) ≡ writeSio (machineIn (now (regs .entry)) (now (rest .entry))) v ⌝ }
 {
     let mode = clock::port_mode(regs, rest);
-    let before = lent::port(rest);
     let sends = mode.on;
     if sends {
-        let receiver = before.receiver;
         let transmitter = serial::sending::store(mode.parity, v);
-        let after = Port {
-            receiver,
-            transmitter,
-        };
-        lent::set_port(regs, rest, after);
+        lent::set_transmitter(regs, rest, transmitter);
     }
 }
 

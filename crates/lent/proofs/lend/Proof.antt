@@ -11,6 +11,12 @@ fits s = (omega arith, omega arith, omega arith, omega arith)
 port-fits : (s : tie.Start) → PortBytes (s .args .m .port)
 port-fits s = search needs
 
+receiver-number-requires : tie.Need-receiver-number-requires
+receiver-number-requires c κs = search needs
+
+transmitter-number-requires : tie.Need-transmitter-number-requires
+transmitter-number-requires c κs = search needs
+
 bits-if-requires : tie.Need-bits-if-requires
 bits-if-requires c κs = search needs
 
@@ -29,49 +35,26 @@ cast-t11 c = search needs
 cast-t12 : tie.Need-cast-t12
 cast-t12 c = search needs
 
-cast-t13 : tie.Need-cast-t13
-cast-t13 c = search needs
-
-cast-t14 : tie.Need-cast-t14
-cast-t14 c = search needs
-
-cast-t15 : tie.Need-cast-t15
-cast-t15 c = search needs
-
-cast-t16 : tie.Need-cast-t16
-cast-t16 c = search needs
-
-cast-t17 : tie.Need-cast-t17
-cast-t17 c = search needs
-
-cast-t18 : tie.Need-cast-t18
-cast-t18 c = search needs
-
-cast-t19 : tie.Need-cast-t19
-cast-t19 c = search needs
-
 returns : tie.Need-returns
 returns c =
-    let level : tie.After-bits-if = c .before .before .before .before .before .before .before .before .before .before .before in
-    let begun : tie.Start = level .before .before .before .before .before .before in
+    let level : tie.After-bits-if = c .before .before .before .before in
+    let sent : tie.After-transmitter-number = level .before in
+    let heard : tie.After-receiver-number = sent .before in
+    let begun : tie.Start = heard .before .before .before .before in
     let typed = fits begun in
-    rw (level .bits-if .ensures .0) (lent-seen (begun .args .m) (typed .0) (typed .1) (typed .2) (typed .3) (port-fits begun))
+    rw (level .bits-if .ensures .0, sent .transmitter-number .ensures, heard .receiver-number .ensures)
+    (lent-seen (begun .args .m) (typed .0) (typed .1) (typed .2) (typed .3) (port-fits begun))
 
 pub lend-spec : {M : Type 1} → statement M
 lend-spec =
     tie.close
     (tie.spec
+    receiver-number-requires
+    transmitter-number-requires
     bits-if-requires
     cast-t8
     cast-t9
     cast-t10
     cast-t11
     cast-t12
-    cast-t13
-    cast-t14
-    cast-t15
-    cast-t16
-    cast-t17
-    cast-t18
-    cast-t19
     returns)

@@ -1,14 +1,18 @@
 use borrow.Author.Needs.{needs}
 use Rattle.lent.proofs.received.Statement.{statement}
 use Rattle.lent.proofs.received.Tie as tie
+use mathlib.Core.Path.{refl}
 use Rattle.lent.specs.View.{coreIn}
 
-byte-requires : tie.Need-byte-requires
-byte-requires c κs = search needs
+element-copy-out-result : tie.Need-element-copy-out-result
+element-copy-out-result c = search needs
+
+cast-result : tie.Need-cast-result
+cast-result c = search needs
 
 returns : tie.Need-returns
 unfolding coreIn
-returns c = c .byte .ensures
+returns c = refl
 
 pub received-spec : {M : Type 1} → statement M
-received-spec = tie.close (tie.spec byte-requires returns)
+received-spec = tie.close (tie.spec element-copy-out-result cast-result returns)

@@ -1,79 +1,42 @@
 use borrow.Author.Needs.{needs}
 use Rattle.lent.proofs.set_port.Statement.{statement}
 use Rattle.lent.proofs.set_port.Tie as tie
-use Rattle.machine.specs.State.{withPort}
+use mathlib.Core.Path.{ap}
+use denote.Ref.{now}
+use Rattle.machine.specs.State.{whole, withPort}
 use Rattle.lent.proofs.Seen.{PortBytes, port-set}
 
 long-requires : tie.Need-long-requires
 long-requires c κs = search needs
 
-cast-rest : tie.Need-cast-rest
-cast-rest c = search needs
+receiver-number-requires : tie.Need-receiver-number-requires
+receiver-number-requires c κs = search needs
+
+transmitter-number-requires : tie.Need-transmitter-number-requires
+transmitter-number-requires c κs = search needs
 
 element-write-rest : tie.Need-element-write-rest
 element-write-rest c = search needs
 
-cast-rest-2 : tie.Need-cast-rest-2
-cast-rest-2 c = search needs
-
 element-write-rest-2 : tie.Need-element-write-rest-2
 element-write-rest-2 c = search needs
-
-cast-rest-3 : tie.Need-cast-rest-3
-cast-rest-3 c = search needs
-
-element-write-rest-3 : tie.Need-element-write-rest-3
-element-write-rest-3 c = search needs
-
-cast-rest-4 : tie.Need-cast-rest-4
-cast-rest-4 c = search needs
-
-element-write-rest-4 : tie.Need-element-write-rest-4
-element-write-rest-4 c = search needs
-
-cast-rest-5 : tie.Need-cast-rest-5
-cast-rest-5 c = search needs
-
-element-write-rest-5 : tie.Need-element-write-rest-5
-element-write-rest-5 c = search needs
-
-cast-rest-6 : tie.Need-cast-rest-6
-cast-rest-6 c = search needs
-
-element-write-rest-6 : tie.Need-element-write-rest-6
-element-write-rest-6 c = search needs
-
-cast-rest-7 : tie.Need-cast-rest-7
-cast-rest-7 c = search needs
-
-element-write-rest-7 : tie.Need-element-write-rest-7
-element-write-rest-7 c = search needs
 
 returns : tie.Need-returns
 unfolding withPort
 returns c =
-    let sized : tie.After-long = c .before .before .before .before .before .before .before .before .before in
-    let p = sized .before .before .args .port in
-    let bytes : PortBytes p = search needs in
-    rw (port-set p bytes _ (sized .long .ensures))
+    let sized : tie.After-long = c .before .before in
+    let begun : tie.Start = sized .before .before in
+    let bytes : PortBytes (begun .args .port) = search needs in
+    let put = port-set (begun .args .port) bytes (now (begun .args .rest)) (sized .long .ensures) in
+    rw (c .transmitter-number .ensures, c .before .receiver-number .ensures) (ap (whole (now (begun .args .regs))) put)
 
 pub set-port-spec : {M : Type 1} → statement M
 set-port-spec =
     tie.close
     (tie.spec
     long-requires
-    cast-rest
+    receiver-number-requires
+    transmitter-number-requires
     element-write-rest
-    cast-rest-2
     element-write-rest-2
-    cast-rest-3
-    element-write-rest-3
-    cast-rest-4
-    element-write-rest-4
-    cast-rest-5
-    element-write-rest-5
-    cast-rest-6
-    element-write-rest-6
-    cast-rest-7
-    element-write-rest-7
     returns)
