@@ -27,8 +27,8 @@ shiftedIn high r = record { received = r .received; shift = entered high (r .shi
 
 -- "After a full character has been assembled in the Shift register, the data is transferred to the receiver's buffer, SIO (%F0), and interrupt
 -- request IRQ_3 is generated. The shift clock is stopped and the Shift register reset to all 1s."
-abbrev pub transferred : Bool → ℕ → Heard
-transferred parity character = record { receiver = waiting (receivedByte parity character); asked = true }
+abbrev pub toBuffer : Bool → ℕ → Heard
+toBuffer parity character = record { receiver = waiting (receivedByte parity character); asked = true }
 
 -- with no request
 abbrev pub unasked3 : Receiver → Heard
@@ -41,7 +41,7 @@ unasked3 r = record { receiver = r; asked = false }
 unfoldable pub shiftClock : Bool → Bool → Receiver → Heard
 shiftClock parity high r =
     pick (eqb (r .awaited) 1 && high) (unasked3 (waiting (r .received)))
-    (pick (ltb (r .awaited) 9) (unasked3 (shiftedIn high r)) (transferred parity (entered high (r .shift))))
+    (pick (ltb (r .awaited) 9) (unasked3 (shiftedIn high r)) (toBuffer parity (entered high (r .shift))))
 
 -- "The T_0 input is divided by 16 and, when the count equals 8, the divider outputs a shift clock", and then "every sixteen counts": from the
 -- start edge to the middle of the start bit, and from middle to middle.
