@@ -11,6 +11,7 @@
    3-1 to 3-8, 4-1 to 4-8), which hold those chapters' examples, and the figures of 10 to 12. IRET, NOP, RCF
    and SCF have no example. "AND R, MASK performs a bit clear operation" (3.2) has no numbers. */
 #include <stdio.h>
+#include <stdlib.h>
 #include <string.h>
 
 #include "../include/z8.h"
@@ -941,10 +942,26 @@ static void check_t_in(const struct engine *engine)
 
 /* ---- Chapter 12 ---- */
 
+static unsigned steps_taken;
+
+#define STEPS_MOST 20000u
+
+/* A step. Where it is refused, or T_0 doesn't come to its ends, the sequences below wouldn't come to theirs. */
+static void take_step(const struct engine *engine, uint8_t pins3)
+{
+    steps_taken++;
+    if (!check(0, engine->step(pins3), engine->name, "12", "a step's answer")
+        || !check(1, steps_taken < STEPS_MOST, engine->name, "12", "T_0 ends")) {
+        printf("manual: %lu checks, %lu failed, and stopped there\n", checks, failed);
+        exit(1);
+    }
+}
+
 /* The serial port on or off by P3M, T0 continuous and fresh from a load of p and t. */
 static void new_port(unsigned p3m, unsigned p, unsigned t)
 {
     new_machine(Z8_TYPE_Z8611);
+    steps_taken = 0;
     saved[P3M] = (uint8_t)p3m;
     saved[PRE0] = (uint8_t)(p * 4 + 1);
     saved[T0] = (uint8_t)t;
@@ -961,7 +978,7 @@ static void load(const struct engine *engine, unsigned dst, unsigned byte, uint8
     image[0x302] = (uint8_t)byte;
     set_pc(0x300);
     all_ends0 = 0;
-    engine->step(pins3);
+    take_step(engine, pins3);
 }
 
 /* 12.2: "bit rate = XTAL frequency / (2 x 4 x p x t x 16)". Table 12-1, by its columns; the frequencies in
@@ -1078,7 +1095,7 @@ static void check_sent(const struct engine *engine, unsigned written, unsigned p
     while (all_ends0 < 176) {
         check(line[all_ends0 / 16] == '1', z8_p37(saved), engine->name, "12.4", line);
         check(0, saved[IRQ], engine->name, "12.2", "T_0's end-of-count generates no IRQ_4");
-        engine->step(0xFF);
+        take_step(engine, 0xFF);
     }
     check(176, all_ends0, engine->name, "12.4", "the 176th end");
     check(0x10, saved[IRQ], engine->name, "12.4", "IRQ_4 is generated");
@@ -1108,7 +1125,7 @@ static void receive(const struct engine *engine, const char *line)
     all_ends0 = 0;
     while (all_ends0 < 136) {
         check(0, saved[IRQ], engine->name, "12.3.1", "no request before the character is assembled");
-        engine->step(line[all_ends0 / 16] == '1' ? 0xFF : 0xFE);
+        take_step(engine, line[all_ends0 / 16] == '1' ? 0xFF : 0xFE);
     }
 }
 
@@ -1126,7 +1143,7 @@ static void check_received(const struct engine *engine, const struct received *r
     new_port(p3m, 3, 1);
     saved[Z8_AT_RECEIVED] = 0x26;
     for (turn = 0; turn < 2; turn++) {
-        engine->step(0xFF);
+        take_step(engine, 0xFF);
         receive(engine, r->line);
         check(136, all_ends0, engine->name, "12.3.1", "the 136th end");
         check(0x08, saved[IRQ], engine->name, "12.3.1", "IRQ_3 is generated");
@@ -1134,12 +1151,12 @@ static void check_received(const struct engine *engine, const struct received *r
               "the Shift register reset to all 1s");
         saved[IRQ] = 0;
         while (all_ends0 < 176) {
-            engine->step(0xFF);
+            take_step(engine, 0xFF);
         }
         image[0x300] = 0x08; /* LD R0,SIO */
         image[0x301] = SIO;
         set_pc(0x300);
-        engine->step(0xFF);
+        take_step(engine, 0xFF);
         check(byte, saved[0x10], engine->name, "12.3.4", r->line);
         saved[Z8_AT_RECEIVED] = 0x62; /* the second time it replaces this */
     }
@@ -1153,10 +1170,10 @@ static void check_false_start(const struct engine *engine)
     new_port(0x40, 3, 1);
     all_ends0 = 0;
     while (all_ends0 < 7) {
-        engine->step(0xFE);
+        take_step(engine, 0xFE);
     }
     while (all_ends0 < 400) {
-        engine->step(0xFF);
+        take_step(engine, 0xFF);
     }
     check(0, saved[IRQ], engine->name, "12.3.1", "a false start bit is no character");
     receive(engine, "00000000111");
@@ -1179,7 +1196,7 @@ static void check_break(const struct engine *engine)
         load(engine, SIO, 0, z8_p37(saved) ? 0xFF : 0xFE);
         while (all_ends0 < 143) {
             check(0, z8_p37(saved), engine->name, "12.4.2", "a break signal");
-            engine->step(z8_p37(saved) ? 0xFF : 0xFE);
+            take_step(engine, z8_p37(saved) ? 0xFF : 0xFE);
         }
         check(0, saved[Z8_AT_RECEIVED], engine->name, "12.3.3", "a null character is received");
         check(characters == 0 ? 0x08 : 0, saved[IRQ], engine->name, "12.3.1",
@@ -1190,7 +1207,7 @@ static void check_break(const struct engine *engine)
     image[0x301] = P3;
     image[0x302] = 0x01;
     set_pc(0x300);
-    engine->step(0xFE);
+    take_step(engine, 0xFE);
     check(Z, saved[FLAGS] & Z, engine->name, "12.3.3", "testing P3_0 results in a 0 being read");
 }
 
@@ -1216,7 +1233,7 @@ static void check_sources(const struct engine *engine)
 static void check_ports_reset(void)
 {
     new_port(0xC0, 1, 1);
-    engines[0].step(0xFF);
+    take_step(&engines[0], 0xFF);
     load(&engines[0], SIO, 0x12, 0xFE);
     engines[0].span(4 * 60);
     check(1, saved[Z8_AT_RECEIVER_AWAITS] > 1, "z8_reset", "12.5", "a character coming in");

@@ -334,9 +334,9 @@ static void check_false_start(unsigned low_for, unsigned p3m)
     g.number = low_for;
     nop(HIGH);
     ends = 0;
-    do {
-        nop(pins_of_level(ends >= low_for && ends > 0));
-    } while (ends < HALF_A_BIT);
+    while (ends < HALF_A_BIT) {
+        nop(pins_of_level(ends >= low_for));
+    }
     check(low_for < HALF_A_BIT ? 0 : 2, g.saved[Z8_AT_RECEIVER_AWAITS], "what the 8th end makes of it");
     while (ends < RECEPTION - 1) {
         nop(HIGH);
@@ -379,18 +379,17 @@ static void check_break(unsigned p3m)
     check(0, g.saved[IRQ], "nor requested");
 }
 
-/* A line that changes with every step, so that there are edges all through the character, which are data: it
-   comes at the 136th end after the first. */
+/* A line that changes with every step, four of which are between two ends, so that there are edges all through
+   the character, which are data: it comes at the 136th end after the first. It rests before the 8th end alone,
+   so that the start bit is one. */
 static void check_edges_within(void)
 {
-    unsigned turn = 0;
+    unsigned turn;
 
     begin("edges all through a character", ON, 3, 2);
-    nop(LOW);
-    while (ends < RECEPTION) {
+    for (turn = 0; ends < RECEPTION; turn++) {
         check(0, g.saved[IRQ], "no request yet");
-        /* Low wherever the 8th end can be, so that the start bit is one. */
-        nop(ends < HALF_A_BIT ? (turn++ % 2 && ends < HALF_A_BIT - 1 ? HIGH : LOW) : turn++ % 2 ? HIGH : LOW);
+        nop(turn % 2 == 0 || ends == HALF_A_BIT - 1 ? LOW : HIGH);
     }
     check(REQUEST_3, g.saved[IRQ], "request 3 with the 136th end");
 }
@@ -409,7 +408,7 @@ static void check_where_edges_are_found(void)
     begin("an edge and a budget of 0", ON, 1, 1);
     memcpy(before, g.saved, Z8_SAVED_LEN);
     run(0, LOW);
-    check(0, (unsigned long)memcmp(before, g.saved, Z8_SAVED_LEN), "nothing is found");
+    check(0, memcmp(before, g.saved, Z8_SAVED_LEN) != 0, "nothing is found");
 
     begin("an edge and a refused step", ON, 1, 1);
     memcpy(before, g.saved, Z8_SAVED_LEN);
@@ -419,7 +418,7 @@ static void check_where_edges_are_found(void)
     g.pins[3] = LOW;
     note(agree(&g, step_of_reference, step_of_library, 0, &expected));
     check(5, expected.answer, "the refusal");
-    check(0, (unsigned long)memcmp(before, expected.saved, Z8_SAVED_LEN), "nothing is found");
+    check(0, memcmp(before, expected.saved, Z8_SAVED_LEN) != 0, "nothing is found");
 
     begin("an edge between spans", ON, 1, 1);
     g.saved[Z8_AT_PORT3] = LOW;
@@ -455,17 +454,17 @@ static void check_overwritten(unsigned long after, unsigned p3m)
 }
 
 /* 004, 12.4.2: "the user is able to generate a break signal [...] by writing null characters to the
-   transmitter buffer
-   [...] at a rate which does not allow the stop bits to be output." */
+   transmitter buffer [...] at a rate which does not allow the stop bits to be output": here in the last end
+   or two before them. */
 static void check_break_sent(void)
 {
     unsigned turns;
 
     begin("a break sent", ON, 1, 1);
     for (turns = 0; turns < 12; turns++) {
-        send(0, HIGH);
         ends = 0;
-        while (ends < 9 * BIT - 4) {
+        send(0, HIGH);
+        while (ends < 9 * BIT - 2) {
             check(0, z8_p37(g.saved), "P37 stays low");
             check(0, g.saved[IRQ], "and nothing is requested");
             nop(HIGH);
@@ -487,7 +486,7 @@ static void check_stores_during_sends(void)
 
 static void port_bytes_stay(const uint8_t before[8])
 {
-    check(0, (unsigned long)memcmp(before, g.saved + Z8_AT_RECEIVED, 8) != 0, "nothing of the port moves");
+    check(0, memcmp(before, g.saved + Z8_AT_RECEIVED, 8) != 0, "nothing of the port moves");
 }
 
 /* Off after so many ends of a send and a reception, for a while with edges of P30 and stores, and on again.
@@ -740,7 +739,7 @@ static int memory_told(unsigned opcode, size_t k)
     if (opcode != 0x92 && opcode != 0x93) {
         return 0;
     }
-    note(memcmp(&found_memory, &expected_memory, sizeof found_memory) == 0);
+    check(0, memcmp(&found_memory, &expected_memory, sizeof found_memory) != 0, "data memory");
     if (k == 0) {
         first_memory = expected_memory;
     }
@@ -1026,8 +1025,8 @@ static unsigned ends_left_to_send(unsigned sender)
     return senders[sender].place == 0 ? 0 : (12u - senders[sender].place) * BIT - senders[sender].ends;
 }
 
-/* Of every two states: one end; a drawn number of ends; the longest span, which has to leave what a short one
- * does. */
+/* From two states: one end; a drawn number of cycles; 200 ends, after which both halves are idle; the longest
+   span, which has to leave what these do. */
 static void check_two_states(struct dice *d, unsigned receiver, unsigned sender, unsigned p30)
 {
     unsigned to_receive = ends_left_to_receive(receiver, p30), to_send = ends_left_to_send(sender);
@@ -1052,10 +1051,8 @@ static void check_two_states(struct dice *d, unsigned receiver, unsigned sender,
     kept.amount = 4294967295u;
     span_of_library(&kept, &whole);
     check(0, whole.answer, "the longest span");
-    check(0, (unsigned long)memcmp(whole.saved, g.saved, Z8_AT_DIVIDER) != 0,
-          "its registers are as after 200 ends");
-    check(0, (unsigned long)memcmp(whole.saved + Z8_AT_RECEIVED, g.saved + Z8_AT_RECEIVED, 8) != 0,
-          "and so is its port");
+    check(0, memcmp(whole.saved, g.saved, Z8_AT_DIVIDER) != 0, "its registers are as after 200 ends");
+    check(0, memcmp(whole.saved + Z8_AT_RECEIVED, g.saved + Z8_AT_RECEIVED, 8) != 0, "and so is its port");
 }
 
 /* Every number of ends up to 180, of every state of each half. */
@@ -1124,7 +1121,7 @@ int main(void)
 
     check_all_bytes();
     check_phases();
-    for (low_for = 0; low_for <= BIT; low_for++) {
+    for (low_for = 1; low_for <= BIT; low_for++) {
         check_false_start(low_for, ON);
         check_false_start(low_for, ON | PARITY);
     }
