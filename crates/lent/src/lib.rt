@@ -280,6 +280,6 @@ pub fn set_transmitter(regs: &File, rest: &mut Rest, t: Transmitter)
     ensures { λ _. ⌜ machineIn (now (regs .entry)) (now (rest .exit)) ≡ withTransmitter (machineIn (now (regs .entry)) (now (rest .entry))) t ⌝ }
 {
     long(rest);
-    let transmitter = transmitter_number(t);
-    rest[TRANSMITTER] = transmitter;
+    let sends = transmitter_number(t);
+    rest[TRANSMITTER] = sends;
 }

@@ -22,14 +22,15 @@ use Rattle.timers.specs.declared.Moving.{Moving}
 use Rattle.timers.specs.declared.Spanned.{Spanned}
 use Rattle.word.specs.Iter.{iter}
 use Rattle.word.proofs.Iterate.{iter-keeps}
-use Rattle.serial.specs.Port.{portEnd, portEnds}
+use Rattle.serial.specs.Transmitter.{stored}
+use Rattle.serial.specs.Port.{portEnd}
 use Rattle.serial.specs.declared.Mode.{Mode}
 use Rattle.serial.specs.declared.Ended.{Ended}
 use Rattle.timers.proofs.Formula.{formula}
 use Rattle.timers.proofs.Legal.{cycles-legal}
 use Rattle.machine.specs.State.{coreOf, held, placed, withPort, withTransmitter}
 use Rattle.machine.specs.Clock.{Ran, controlOf, movingOf, countsAt, movedTo, writeTmr, shown, spanOf}
-use Rattle.machine.specs.Serial.{portMode, writeSio}
+use Rattle.machine.specs.Serial.{portMode, readSio, writeSio}
 use Rattle.machine.specs.Registers.{isHole, readReg, writePort, writeReg}
 use Rattle.machine.specs.Addresses.{workingAt, registerAt, indirectAt}
 use Rattle.machine.specs.Legal.{mayHold, Legal}
@@ -65,6 +66,20 @@ store-leaves-core m a v z n =
   where
     S : Machine → Type 0
     S k = coreOf k ≡ coreOf m
+
+-- F0 while the serial port is on: it reads the byte received last, and a store begins a send, whatever was under way, and moves nothing else
+pub sio-reads : (p : Pins) (m : Machine) → portMode m .on ≡ true → readReg p m 0xF0 ≡ m .port .receiver .received
+unfolding readReg readSio
+sio-reads p m on = rw on
+
+pub sio-sends : (m : Machine) (v : ℕ) → portMode m .on ≡ true → writeReg m 0xF0 v ≡ withTransmitter m (stored (portMode m .parity) v)
+unfolding writeReg writeSio
+sio-sends m v on = rw on
+
+-- and while it is off: it reads FF and drops stores
+pub sio-off : (p : Pins) (m : Machine) (v : ℕ) → portMode m .on ≡ false → (readReg p m 0xF0 ≡ 0xFF) × (writeReg m 0xF0 v ≡ m)
+unfolding readReg readSio writeReg writeSio
+sio-off p m v off = (rw off, rw off)
 
 -- an address Ex that is found inside a register is that hole, whatever RP is: the Ex rule isn't applied to it
 pub found-as-it-is : (p : Pins) (m : Machine) (b x v : ℕ) → readReg p m (registerAt m b) ≡ 0xE0 + x → x < 16
