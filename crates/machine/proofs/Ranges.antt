@@ -1,32 +1,34 @@
 -- R4 to R127, which are what they hold, the holes 80 to EF, and F0.
-use mathlib.Core.Path.{_≡_}
-use mathlib.Core.Bool.{true, _&&_}
+use mathlib.Core.Path.{_≡_, _∙_, sym}
+use mathlib.Core.Bool.{true, false, _&&_}
 use Prim.Native.Nat.{ℕ, _<_, _≤_}
 use native.Mathlib.Omega.{arith}
 use borrow.Author.Tests.{le-ltb, le-leb, lt-leb, ne-eqb}
-use lib.Dec.{T, leb, ltb, leb→le, ltb→lt}
+use lib.Dec.{T, eqb, leb, ltb, leb→le, ltb→lt}
 use Rattle.word.proofs.Computed.{and-left, and-right}
 use Rattle.machine.specs.State.{held, placed}
-use Rattle.machine.specs.Registers.{readReg, writeReg}
+use Rattle.machine.specs.Registers.{readHole, writeHole, readReg, writeReg}
 use Rattle.machine.specs.declared.Machine.{Machine}
 use Rattle.machine.specs.declared.Pins.{Pins}
 use Rattle.machine.specs.ForCode.{isGeneral}
 
-pub hole-reads : (p : Pins) (m : Machine) (a : ℕ) → 0x80 ≤ a → a < 0xF0 → 0xFF ≡ readReg p m a
+pub hole-reads : (p : Pins) (m : Machine) (a : ℕ) → 0x80 ≤ a → a ≤ 0xF0 → readHole m a ≡ readReg p m a
 unfolding readReg
 hole-reads p m a h k =
     let low : 0x04 ≤ a = omega arith in
-    let top : a ≤ 0xF0 = omega arith in
-    let n0 : a ≡ 0xF0 → ⊥ = omega arith in
-    simp (le-ltb, le-leb, ne-eqb)
+    simp (le-ltb, le-leb)
 
-pub hole-drops : (m : Machine) (a v : ℕ) → 0x80 ≤ a → a < 0xF0 → m ≡ writeReg m a v
+pub hole-stores : (m : Machine) (a v : ℕ) → 0x80 ≤ a → a ≤ 0xF0 → writeHole m a v ≡ writeReg m a v
 unfolding writeReg
-hole-drops m a v h k =
+hole-stores m a v h k =
     let low : 0x04 ≤ a = omega arith in
-    let top : a ≤ 0xF0 = omega arith in
-    let n0 : a ≡ 0xF0 → ⊥ = omega arith in
-    simp (le-ltb, le-leb, ne-eqb)
+    simp (le-ltb, le-leb)
+
+-- all but F0 read FF and drop stores
+pub empty-hole : (p : Pins) (m : Machine) (a v : ℕ) → 0x80 ≤ a → a < 0xF0 → (readReg p m a ≡ 0xFF) × (writeReg m a v ≡ m)
+empty-hole p m a v h k =
+    let other : eqb a 0xF0 ≡ false = ne-eqb a 0xF0 (omega arith) in
+    (sym (hole-reads p m a h (omega arith)) ∙ rw other, sym (hole-stores m a v h (omega arith)) ∙ rw other)
 
 pub general-reads : (p : Pins) (m : Machine) (a : ℕ) → 0x04 ≤ a → a < 0x80 → held m a ≡ readReg p m a
 unfolding readReg

@@ -37,7 +37,7 @@ use Rattle.machine.specs.Legal.{mayHold, Legal}
 use Rattle.machine.specs.declared.Machine.{Machine}
 use Rattle.machine.specs.declared.Pins.{Pins}
 use Rattle.machine.proofs.Places.{held-other}
-use Rattle.machine.proofs.Ranges.{hole-reads, hole-drops}
+use Rattle.machine.proofs.Ranges.{empty-hole}
 use Rattle.machine.proofs.Lens.{put-tmr, put-irq, put-other, rest-kept, span-is}
 use Rattle.machine.proofs.Legal.{setting-of, irq-small}
 
@@ -85,8 +85,7 @@ sio-off p m v off = (rw off, rw off)
 pub found-as-it-is : (p : Pins) (m : Machine) (b x v : ℕ) → readReg p m (registerAt m b) ≡ 0xE0 + x → x < 16
     → (readReg p m (indirectAt p m b) ≡ 0xFF) × (writeReg m (indirectAt p m b) v ≡ m)
 unfolding indirectAt
-found-as-it-is p m b x v e h =
-    (rw e (sym (hole-reads p m (0xE0 + x) (omega arith) (omega arith))), rw e (sym (hole-drops m (0xE0 + x) v (omega arith) (omega arith))))
+found-as-it-is p m b x v e h = rw e (empty-hole p m (0xE0 + x) v (omega arith) (omega arith))
 
 -- and with RP E0 a field Ex is that hole too
 pub hole-group : (m : Machine) (x : ℕ) → held m 0xFD ≡ 0xE0 → x < 16 → registerAt m (0xE0 + x) ≡ 0xE0 + x

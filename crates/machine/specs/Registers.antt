@@ -14,9 +14,15 @@ use Rattle.machine.specs.declared.Machine.{Machine}
 use Rattle.machine.specs.declared.Pins.{Pins}
 use Rattle.machine.specs.declared.ports.Directions.{Directions}
 
--- "80 to EF and F0 read FF and drop stores (HOUSE)": F0 while the serial port is off (02, C-11)
+-- "80 to EF and F0 read FF and drop stores (HOUSE)." F0 is the serial port's now, and does so while that is off (02, C-11).
 abbrev pub isHole : ℕ → Bool
 isHole a = leb 0x80 a && leb a 0xF0
+
+abbrev pub readHole : Machine → ℕ → ℕ
+readHole m a = pick (eqb a SIO) (readSio m) 0xFF
+
+abbrev pub writeHole : Machine → ℕ → ℕ → Machine
+writeHole m a v = pick (eqb a SIO) (writeSio m v) m
 
 -- "F3 and F5 to F9 are write-only (002) and read FF."
 abbrev pub isWriteOnly : ℕ → Bool
@@ -37,7 +43,7 @@ writePort m a v = placed m a (portStores (portDirections m a) (held m a) v)
 unfoldable pub readReg : Pins → Machine → ℕ → ℕ
 readReg p m a =
     pick (ltb a 0x04) (readPort p m a)
-    (pick (isHole a) (pick (eqb a SIO) (readSio m) 0xFF)
+    (pick (isHole a) (readHole m a)
     (pick (isWriteOnly a) 0xFF
     (pick (eqb a T1) (lowByte (m .t1 .counter))
     (pick (eqb a T0) (lowByte (m .t0 .counter))
@@ -49,7 +55,7 @@ readReg p m a =
 unfoldable pub writeReg : Machine → ℕ → ℕ → Machine
 writeReg m a v =
     pick (ltb a 0x04) (writePort m a v)
-    (pick (isHole a) (pick (eqb a SIO) (writeSio m v) m)
+    (pick (isHole a) (writeHole m a v)
     (pick (eqb a TMR) (writeTmr m v)
     (pick (eqb a IRQ) (placed m a (v % 64))
     (pick (eqb a RP) (placed m a (upper v * 16))

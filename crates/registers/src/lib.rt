@@ -10,7 +10,7 @@ use timers::Timer;
 ghost use mathlib.Core.Path.{_≡_};
 ghost use Rattle.word.specs.Fields.{lowByte};
 ghost use Rattle.machine.specs.Serial.{readSio, writeSio};
-ghost use Rattle.machine.specs.Registers.{readPort, writePort, readReg, writeReg};
+ghost use Rattle.machine.specs.Registers.{readPort, writePort, readHole, writeHole, readReg, writeReg};
 ghost use Rattle.machine.specs.ForCode.{isGeneral};
 ghost use Rattle.lent.specs.View.{machineIn};
 
@@ -57,6 +57,27 @@ fn write_sio(regs: &File, rest: &mut Rest, v: u8)
     }
 }
 
+// What 80 to F0 read. The match in `read_any` and `write_any` goes by ranges and few single addresses, which the compiler tests one after
+// the other and so keeps what TMR needs out of the other ways: F0 is told from the holes here.
+fn read_hole(regs: &File, rest: &Rest, a: u8) -> u8
+    ensures { λ r. ⌜ r ≡ readHole (machineIn (now (regs .entry)) (now (rest .entry))) a ⌝ }
+{
+    if a == names::SIO {
+        read_sio(regs, rest)
+    } else {
+        0xFF
+    }
+}
+
+// What a store to them does.
+fn write_hole(regs: &File, rest: &mut Rest, a: u8, v: u8)
+    ensures { λ _. ⌜ machineIn (now (regs .entry)) (now (rest .exit)) ≡ writeHole (machineIn (now (regs .entry)) (now (rest .entry))) a v ⌝ }
+{
+    if a == names::SIO {
+        write_sio(regs, rest, v);
+    }
+}
+
 // R4 to R127: what a program uses most is looked at first.
 fn is_general(a: u8) -> bool
     ensures { λ r. ⌜ r ≡ isGeneral a ⌝ }
@@ -77,8 +98,7 @@ pub fn read_any(regs: &File, rest: &Rest, pins: Pins, a: u8) -> u8
 {
     match a {
         0x00..=0x03 => read_port(regs, rest, pins, a),
-        0x80..=0xEF => 0xFF,
-        names::SIO => read_sio(regs, rest),
+        0x80..=names::SIO => read_hole(regs, rest, a),
         names::T1 => counter(lent::t1(rest)),
         names::PRE1 => 0xFF,
         names::T0 => counter(lent::t0(rest)),
@@ -107,9 +127,8 @@ pub fn write_any(regs: &mut File, rest: &mut Rest, a: u8, v: u8)
         0x00..=0x03 => {
             write_port(regs, rest, a, v);
         }
-        0x80..=0xEF => {}
-        names::SIO => {
-            write_sio(regs, rest, v);
+        0x80..=names::SIO => {
+            write_hole(regs, rest, a, v);
         }
         names::TMR => {
             clock::write_tmr(regs, rest, v);

@@ -41,9 +41,6 @@ control p m a h nb =
     let n4 : a ≡ 0xF4 → ⊥ = omega arith in
     simp (le-ltb, lt-leb, le-leb, ne-eqb)
 
-read-sio-requires : tie.Need-read-sio-requires
-read-sio-requires c κs = search needs
-
 t1-requires : tie.Need-t1-requires
 t1-requires c κs = search needs
 
@@ -62,52 +59,51 @@ held-requires c κs = search needs
 read-port-requires : tie.Need-read-port-requires
 read-port-requires c κs = search needs
 
+read-hole-requires : tie.Need-read-hole-requires
+read-hole-requires c κs = search needs
+
 held-requires-2 : tie.Need-held-requires-2
 held-requires-2 c κs = search needs
 
 returns : tie.Need-returns
 unfolding readReg
-returns c = rw (c .read-sio .ensures, c .before .match .keys1)
+returns c = rw (c .counter .ensures, c .before .t1 .ensures, c .before .before .match .keys1)
 
 returns-2 : tie.Need-returns-2
 unfolding readReg
-returns-2 c = rw (c .counter .ensures, c .before .t1 .ensures, c .before .before .match .keys2)
+returns-2 c = rw (c .match .keys2)
 
 returns-3 : tie.Need-returns-3
 unfolding readReg
-returns-3 c = rw (c .match .keys3)
+returns-3 c = rw (c .counter2 .ensures, c .before .t0 .ensures, c .before .before .match .keys3)
 
 returns-4 : tie.Need-returns-4
 unfolding readReg
-returns-4 c = rw (c .counter2 .ensures, c .before .t0 .ensures, c .before .before .match .keys4)
+returns-4 c = rw (c .held .ensures, c .before .match .keys4)
 
 returns-5 : tie.Need-returns-5
-unfolding readReg
-returns-5 c = rw (c .held .ensures, c .before .match .keys5)
+returns-5 c = c .read-port .ensures ∙ port _ _ _ (omega arith)
 
 returns-6 : tie.Need-returns-6
-returns-6 c = c .read-port .ensures ∙ port _ _ _ (omega arith)
+returns-6 c = c .read-hole .ensures ∙ hole-reads _ _ _ (omega arith) (omega arith)
 
 returns-7 : tie.Need-returns-7
-returns-7 c = hole-reads _ _ _ (omega arith) (omega arith)
+returns-7 c = hidden _ _ _ (omega arith) (omega arith)
 
 returns-8 : tie.Need-returns-8
-returns-8 c = hidden _ _ _ (omega arith) (omega arith)
-
-returns-9 : tie.Need-returns-9
-returns-9 c = c .held2 .ensures ∙ ⊎-elim (λ w. general-reads _ _ _ (omega arith) (w .taken)) (⊎-elim (λ w. tmr _ _ _ (omega arith)) (λ w. control _ _ _ (w .3 .left) (c .before .before .before .match .rest .1))) (c .before .if2 .came)
+returns-8 c = c .held2 .ensures ∙ ⊎-elim (λ w. general-reads _ _ _ (omega arith) (w .taken)) (⊎-elim (λ w. tmr _ _ _ (omega arith)) (λ w. control _ _ _ (w .3 .left) (c .before .before .before .match .rest .1))) (c .before .if2 .came)
 
 pub read-any-spec : {M : Type 1} → statement M
 read-any-spec =
     tie.close
     (tie.spec
-    read-sio-requires
     t1-requires
     counter-requires
     t0-requires
     counter-requires-2
     held-requires
     read-port-requires
+    read-hole-requires
     held-requires-2
     returns
     returns-2
@@ -116,5 +112,4 @@ read-any-spec =
     returns-5
     returns-6
     returns-7
-    returns-8
-    returns-9)
+    returns-8)
