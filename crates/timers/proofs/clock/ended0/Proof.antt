@@ -1,6 +1,7 @@
 use borrow.Author.Needs.{needs}
 use Rattle.timers.proofs.clock.ended0.Statement.{statement}
 use Rattle.timers.proofs.clock.ended0.Tie as tie
+use Rattle.timers.specs.Requests.{latchedIf}
 use Rattle.timers.specs.Clock.{askedFor}
 use mathlib.Core.Path.{_≡_, sym, _∙_}
 use mathlib.Core.Bool.{true, false}
@@ -37,7 +38,9 @@ returns-2 c =
     let port : tie.After-ends = sent .before in
     let a = port .before .before .before .args in
     let on : a .m .on ≡ true = not-false _ (port .before .before .if1 .left) in
-    rw (tout .level .ensures, irq .latched-if2 .ensures, sent .latched-if .ensures, port .ends .ensures) (sym (ends-on (a .m) (a .s) (a .e) (a .l) on))
+    let heard : irq .latched-if2 .result ≡ latchedIf (port .ends .result .asked3) 3 (sent .latched-if .result) = irq .latched-if2 .ensures in
+    let done : sent .latched-if .result ≡ latchedIf (port .ends .result .asked4) 4 (a .l .irq) = sent .latched-if .ensures in
+    rw (tout .level .ensures, heard, done, port .ends .ensures) (sym (ends-on (a .m) (a .s) (a .e) (a .l) on))
 
 pub ended0-spec : {M : Type 1} → statement M
 ended0-spec =
