@@ -23,7 +23,7 @@ last3-requires c κs = search needs
 
 returns : tie.Need-returns
 unfolding controlWith
-returns c = rw (c .last3 .ensures, c .before .held5 .ensures, c .before .before .held4 .ensures, c .before .before .before .held3 .ensures, c .before .before .before .before .held2 .ensures, c .before .before .before .before .before .held .ensures)
+returns c = simp (c .last3 .ensures, c .before .held5 .ensures, c .before .before .held4 .ensures, c .before .before .before .held3 .ensures, c .before .before .before .before .held2 .ensures, c .before .before .before .before .before .held .ensures)
 
 pub control-with-spec : {M : Type 1} → statement M
 control-with-spec =

@@ -14,7 +14,7 @@ port-mode-requires c κs = search needs
 
 returns : tie.Need-returns
 unfolding portMode
-returns c = rw (c .port-mode .ensures, c .before .last3 .ensures, c .before .before .held .ensures)
+returns c = simp (c .port-mode .ensures, c .before .last3 .ensures, c .before .before .held .ensures)
 
 pub port-mode-spec : {M : Type 1} → statement M
 port-mode-spec = tie.close (tie.spec held-requires last3-requires port-mode-requires returns)

@@ -11,7 +11,7 @@ fits-requires-2 c κs = search needs
 
 returns : tie.Need-returns
 unfolding portFits
-returns c = rw (c .fits3 .ensures, c .before .fits2 .ensures)
+returns c = simp (c .fits3 .ensures, c .before .fits2 .ensures)
 
 pub port-fits-spec : {M : Type 1} → statement M
 port-fits-spec = tie.close (tie.spec fits-requires fits-requires-2 returns)
