@@ -20,7 +20,6 @@ use Rattle.timers.specs.declared.Source.the-variants.{Divider}
 use Rattle.timers.specs.declared.Lines.{Lines}
 use Rattle.timers.specs.declared.Moving.{Moving}
 use Rattle.timers.specs.declared.Spanned.{Spanned}
-use Rattle.word.specs.Iter.{iter}
 use Rattle.word.proofs.Iterate.{iter-keeps}
 use Rattle.serial.specs.Transmitter.{stored}
 use Rattle.serial.specs.Port.{portEnd}
