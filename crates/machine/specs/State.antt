@@ -55,56 +55,38 @@ held m a = heldIn (m .regs) a
 unfoldable pub placed : Machine → ℕ → ℕ → Machine
 placed m a v = whole (placedIn (m .regs) a v) (coreOf m)
 
--- the rest of a machine, and a machine, at another program counter
-abbrev pub atPc : Core → ℕ → Core
-atPc k pc =
+-- the rest of a machine with this program counter, these last pins and this serial port, and all else as it was
+abbrev pub coreWith : Core → ℕ → ℕ → Port → Core
+coreWith k pc last3 port =
     record {
       pc = pc;
       divider = k .divider;
       t0 = k .t0;
       t1 = k .t1;
-      last3 = k .last3;
+      last3 = last3;
       tout = k .tout;
       kind = k .kind;
       cost = k .cost;
-      port = k .port;
+      port = port;
     }
+
+-- the rest of a machine, and a machine, at another program counter
+abbrev pub atPc : Core → ℕ → Core
+atPc k pc = coreWith k pc (k .last3) (k .port)
 
 unfoldable pub withPc : Machine → ℕ → Machine
 withPc m pc = whole (m .regs) (atPc (coreOf m) pc)
 
 -- the same with other last pins of Port 3
 abbrev pub atLast3 : Core → ℕ → Core
-atLast3 k port3 =
-    record {
-      pc = k .pc;
-      divider = k .divider;
-      t0 = k .t0;
-      t1 = k .t1;
-      last3 = port3;
-      tout = k .tout;
-      kind = k .kind;
-      cost = k .cost;
-      port = k .port;
-    }
+atLast3 k port3 = coreWith k (k .pc) port3 (k .port)
 
 unfoldable pub withLast3 : Machine → ℕ → Machine
 withLast3 m port3 = whole (m .regs) (atLast3 (coreOf m) port3)
 
--- the same with another serial port
+-- with another serial port
 abbrev pub atPort : Core → Port → Core
-atPort k port =
-    record {
-      pc = k .pc;
-      divider = k .divider;
-      t0 = k .t0;
-      t1 = k .t1;
-      last3 = k .last3;
-      tout = k .tout;
-      kind = k .kind;
-      cost = k .cost;
-      port = port;
-    }
+atPort k port = coreWith k (k .pc) (k .last3) port
 
 unfoldable pub withPort : Machine → Port → Machine
 withPort m port = whole (m .regs) (atPort (coreOf m) port)
