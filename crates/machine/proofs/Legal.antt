@@ -25,7 +25,8 @@ use Rattle.timers.proofs.Legal.{setting-legal, written-legal, cycles-legal}
 use Rattle.machine.specs.State.{heldIn, placedIn, held, placed, withPc, withLast3, withPort, withTransmitter}
 use Rattle.machine.specs.Ports.{masked, port0Directions, port1Directions, port2Directions, port3Directions, directionsOf, portStores, portReads, pinsOf, ofPort}
 use Rattle.machine.specs.Clock.{controlWith, controlOf, movingOf, enabling, countsAt, movedTo, writeTmr, spanOf, shown}
-use Rattle.machine.specs.Serial.{portMode, readSio, writeSio}
+use Rattle.machine.specs.Serial.{portMode, writeSio}
+use Rattle.machine.proofs.Sio.{sio-either, sio-byte}
 use Rattle.machine.specs.Registers.{isHole, isWriteOnly, portDirections, readPort, writePort, readReg, writeReg}
 use Rattle.machine.specs.Addresses.{workingAt, registerAt, indexedAt, evenOf, readPair, writePair}
 use Rattle.machine.specs.Stack.{Stacked, spl, spOf, spSet, writtenFrom, pushedInternal, pushedExternal, pushed, stackByte, raised, isInternal}
@@ -195,17 +196,13 @@ module _ {m : Machine} (l : Legal m) where
   unfolding movingOf
   own-port = l .moving .port-legal
 
-  sio-byte : readSio m < 256
-  unfolding readSio
-  sio-byte = by-test (λ (v : ℕ). v < 256) (portMode m .on) (λ t. own-port .legal-receiver .received-byte) (λ t. lit< tt)
-
   pub read-byte : (p : Pins) (a : ℕ) → LegalPins p → readReg p m a < 256
   unfolding readReg readPort portReads
   read-byte p a lp =
       by-test B (ltb a 0x04)
       (λ t. masked-byte (portDirections m a .address) 0xFF _ (port-lines a .address-byte) (lit< tt)
       (masked-byte (portDirections m a .inputs) (pinsOf p a) (held m a) (port-lines a .inputs-byte) (pins-byte p a lp) (l .file .bytes a))) (λ t.
-      by-test B (isHole a) (λ u. by-test B (eqb a 0xF0) (λ e. sio-byte) (λ e. lit< tt)) (λ u.
+      by-test B (isHole a) (λ u. by-test B (eqb a 0xF0) (λ e. sio-byte m (own-port .legal-receiver .received-byte)) (λ e. lit< tt)) (λ u.
       by-test B (isWriteOnly a) (λ u. lit< tt) (λ u.
       by-test B (eqb a 0xF2) (λ u. omega arith) (λ u.
       by-test B (eqb a 0xF4) (λ u. omega arith) (λ u.
@@ -237,10 +234,10 @@ module _ {m : Machine} (l : Legal m) where
       (kept-may v hv)
 
   sio-legal : (v : ℕ) → v < 256 → Legal (writeSio m v)
-  unfolding writeSio withTransmitter
+  unfolding withTransmitter
   sio-legal v hv =
       let sends : LegalPort _ = record { legal-receiver = own-port .legal-receiver; legal-transmitter = stored-legal (portMode m .parity) v hv } in
-      by-test Legal (portMode m .on) (λ t. with-port-legal _ l sends) (λ t. l)
+      sio-either m v Legal (with-port-legal _ l sends) l
 
   pub write-legal : (a v : ℕ) → a < 256 → v < 256 → Legal (writeReg m a v)
   unfolding writeReg mayHold

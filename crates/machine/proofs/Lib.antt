@@ -1,6 +1,7 @@
 pub mod Choices
 pub mod Elements
 pub mod Places
+pub mod Sio
 pub mod Ranges
 pub mod Lens
 pub mod Whole

@@ -21,7 +21,6 @@ use Rattle.timers.specs.declared.Lines.{Lines}
 use Rattle.timers.specs.declared.Moving.{Moving}
 use Rattle.timers.specs.declared.Spanned.{Spanned}
 use Rattle.word.proofs.Iterate.{iter-keeps}
-use Rattle.serial.specs.Transmitter.{stored}
 use Rattle.serial.specs.Port.{portEnd}
 use Rattle.serial.specs.declared.Mode.{Mode}
 use Rattle.serial.specs.declared.Ended.{Ended}
@@ -29,23 +28,23 @@ use Rattle.timers.proofs.Formula.{formula}
 use Rattle.timers.proofs.Legal.{cycles-legal}
 use Rattle.machine.specs.State.{coreOf, held, placed, withPort, withTransmitter}
 use Rattle.machine.specs.Clock.{Ran, controlOf, movingOf, countsAt, movedTo, writeTmr, shown, spanOf}
-use Rattle.machine.specs.Serial.{portMode, readSio, writeSio}
 use Rattle.machine.specs.Registers.{isHole, readReg, writePort, writeReg}
 use Rattle.machine.specs.Addresses.{workingAt, registerAt, indirectAt}
 use Rattle.machine.specs.Legal.{mayHold, Legal}
 use Rattle.machine.specs.declared.Machine.{Machine}
 use Rattle.machine.specs.declared.Pins.{Pins}
 use Rattle.machine.proofs.Places.{held-other}
+use Rattle.machine.proofs.Sio.{sio-either}
 use Rattle.machine.proofs.Ranges.{empty-hole}
 use Rattle.machine.proofs.Lens.{put-tmr, put-irq, put-other, rest-kept, span-is}
 use Rattle.machine.proofs.Legal.{setting-of, irq-small}
 
 -- a store to register a leaves every other place
 pub store-leaves : (m : Machine) (a v b : ℕ) → b ≢ a → held (writeReg m a v) b ≡ held m b
-unfolding writeReg writePort writeTmr writeSio withTransmitter withPort countsAt placed
+unfolding writeReg writePort writeTmr withTransmitter withPort countsAt placed
 store-leaves m a v b n =
     by-test S (ltb a 0x04) (λ t. held-other (m .regs) a b _ n) (λ t.
-    by-test S (isHole a) (λ u. by-test S (eqb a 0xF0) (λ e. by-test S (portMode m .on) (λ w. refl) (λ w. refl)) (λ e. refl)) (λ u.
+    by-test S (isHole a) (λ u. by-test S (eqb a 0xF0) (λ e. sio-either m v S refl refl) (λ e. refl)) (λ u.
     by-test S (eqb a 0xF1) (λ e. held-other (m .regs) 0xF1 b _ (λ own. n (own ∙ sym (eqb-true a 0xF1 e)))) (λ u.
     by-test S (eqb a 0xFA) (λ e. held-other (m .regs) a b _ n) (λ u.
     by-test S (eqb a 0xFD) (λ e. held-other (m .regs) a b _ n) (λ u. held-other (m .regs) a b _ n)))))
@@ -65,20 +64,6 @@ store-leaves-core m a v z n =
   where
     S : Machine → Type 0
     S k = coreOf k ≡ coreOf m
-
--- F0 while the serial port is on: it reads the byte received last, and a store begins a send, whatever was under way, and moves nothing else
-pub sio-reads : (p : Pins) (m : Machine) → portMode m .on ≡ true → readReg p m 0xF0 ≡ m .port .receiver .received
-unfolding readReg readSio
-sio-reads p m on = rw on
-
-pub sio-sends : (m : Machine) (v : ℕ) → portMode m .on ≡ true → writeReg m 0xF0 v ≡ withTransmitter m (stored (portMode m .parity) v)
-unfolding writeReg writeSio
-sio-sends m v on = rw on
-
--- and while it is off: it reads FF and drops stores
-pub sio-off : (p : Pins) (m : Machine) (v : ℕ) → portMode m .on ≡ false → (readReg p m 0xF0 ≡ 0xFF) × (writeReg m 0xF0 v ≡ m)
-unfolding readReg readSio writeReg writeSio
-sio-off p m v off = (rw off, rw off)
 
 -- an address Ex that is found inside a register is that hole, whatever RP is: the Ex rule isn't applied to it
 pub found-as-it-is : (p : Pins) (m : Machine) (b x v : ℕ) → readReg p m (registerAt m b) ≡ 0xE0 + x → x < 16

@@ -12,7 +12,8 @@ use Rattle.word.proofs.Iterate.{iter-keeps}
 use Rattle.serial.specs.declared.Mode.{Mode}
 use Rattle.machine.specs.State.{placedIn, whole, placed, withPort, withTransmitter}
 use Rattle.machine.specs.Clock.{movingOf, countsAt, movedTo, writeTmr, Ran, shown, cycleOf, spanOf}
-use Rattle.machine.specs.Serial.{portMode, writeSio}
+use Rattle.machine.specs.Serial.{writeSio}
+use Rattle.machine.proofs.Sio.{sio-either}
 use Rattle.machine.specs.Registers.{isHole, writePort, writeReg}
 use Rattle.machine.specs.Addresses.{evenOf, writePair}
 use Rattle.machine.specs.Memory.{listOf}
@@ -55,11 +56,9 @@ unfolding writeTmr countsAt placed written movingOf
 tmr-keeps m v = record { pc-kept = refl; divider-kept = refl; last3-kept = refl; kind-kept = refl; cost-kept = refl }
 
 sio-keeps : (m : Machine) (v : ℕ) → Keeps m (writeSio m v)
-unfolding writeSio withTransmitter withPort
+unfolding withTransmitter withPort
 sio-keeps m v =
-    by-test (Keeps m) (portMode m .on)
-    (λ t. record { pc-kept = refl; divider-kept = refl; last3-kept = refl; kind-kept = refl; cost-kept = refl })
-    (λ t. itself m)
+    sio-either m v (Keeps m) (record { pc-kept = refl; divider-kept = refl; last3-kept = refl; kind-kept = refl; cost-kept = refl }) (itself m)
 
 pub write-keeps : (m : Machine) (a v : ℕ) → Keeps m (writeReg m a v)
 unfolding writeReg writePort

@@ -28,7 +28,7 @@ returns c =
     let begun : tie.Start = sized .before .before in
     let bytes : PortBytes (begun .args .port) = search needs in
     let put = port-set (begun .args .port) bytes (now (begun .args .rest)) (sized .long .ensures) in
-    rw (c .transmitter-number .ensures, c .before .receiver-number .ensures) (ap (whole (now (begun .args .regs))) put)
+    simp (c .transmitter-number .ensures, c .before .receiver-number .ensures) (ap (whole (now (begun .args .regs))) put)
 
 pub set-port-spec : {M : Type 1} → statement M
 set-port-spec =

@@ -22,7 +22,7 @@ returns c =
     let sized : tie.After-long = c .before in
     let begun : tie.Start = sized .before .before in
     let put = transmitter-set (begun .args .t) (omega arith) (omega arith) (omega arith) (now (begun .args .rest)) (sized .long .ensures) in
-    rw (c .transmitter-number .ensures) (ap (whole (now (begun .args .regs))) put)
+    simp (c .transmitter-number .ensures) (ap (whole (now (begun .args .regs))) put)
 
 pub set-transmitter-spec : {M : Type 1} → statement M
 set-transmitter-spec =
