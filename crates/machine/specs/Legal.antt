@@ -31,8 +31,7 @@ pub record LegalFile (file : List ℕ) : Type 0 where
   pub places : (a : ℕ) → T (mayHold a (heldIn file a))
 
 -- `moving` says "divider 0 to 3; prescalers 1 to 64", that a counter is 1 to 256, and what the serial port's bytes may be. T_OUT is 0 or 1
--- by its type. `pc-word` and
--- `last3-byte` say what in code the types say.
+-- by its type. `pc-word` and `last3-byte` say what in code the types say.
 pub record Legal (m : Machine) : Type 0 where
   pub file : LegalFile (m .regs)
   pub pc-word : m .pc < 65536

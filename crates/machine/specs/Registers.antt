@@ -50,8 +50,9 @@ readReg p m a =
     (pick (eqb a IMR) (bitAnd (held m a) 0xBF)
     (held m a))))))
 
--- a store of v to register a: a hole drops it, SIO (F0) sends it while the port is on, TMR (F1) acts on its load bits, IRQ (FA) drops bits 6 and 7 (HOUSE), and RP (FD) its low
--- nibble, which "always reads 0 (HOUSE)". All others hold what is stored: "F2 and F4 hold start values".
+-- a store of v to register a: a hole drops it, SIO (F0) sends it while the serial port is on, TMR (F1) acts on its load bits, IRQ (FA)
+-- drops bits 6 and 7 (HOUSE), and RP (FD) its low nibble, which "always reads 0 (HOUSE)". All others hold what is stored: "F2 and F4 hold
+-- start values".
 unfoldable pub writeReg : Machine → ℕ → ℕ → Machine
 writeReg m a v =
     pick (ltb a 0x04) (writePort m a v)
