@@ -58,7 +58,7 @@ budgetMost = 1000000
 -- ---- this library's version, as include/z8.h and CHANGELOG.md have it
 
 abbrev pub versionMajor : ℕ
-versionMajor = 2
+versionMajor = 3
 
 abbrev pub versionMinor : ℕ
 versionMinor = 0

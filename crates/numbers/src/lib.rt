@@ -31,7 +31,7 @@ pub const IMAGE_MOST: usize = 65536;
 pub const DATA_MOST: usize = 65536;
 
 // The library's version, as include/z8.h and CHANGELOG.md have it.
-pub const VERSION_MAJOR: u32 = 2;
+pub const VERSION_MAJOR: u32 = 3;
 
 pub const VERSION_MINOR: u32 = 0;
 
