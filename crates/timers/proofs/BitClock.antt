@@ -23,7 +23,7 @@ module _ (s : Setting) (n : ℕ) (m : Moving) (d : m .divider < 4) where
   abbrev with-t1 : Lines → Lines
   with-t1 l =
       record {
-        irq = iter (after .ends1) (latch (s .t1 .request)) (l .irq);
+        requests = iter (after .ends1) (latch (s .t1 .request)) (l .requests);
         tout = iter (after .ends1) (flips (s .t1 .drives)) (l .tout);
         port = l .port;
       }
@@ -38,7 +38,7 @@ module _ (s : Setting) (n : ℕ) (m : Moving) (d : m .divider < 4) where
       after .moving .lines
       ≡ with-t1
       (record {
-        irq = askedFor (heard .asked3) (heard .asked4) (m .lines .irq);
+        requests = askedFor (heard .asked3) (heard .asked4) (m .lines .requests);
         tout = iter (after .ends0) (flips (s .t0 .drives)) (m .lines .tout);
         port = heard .port;
       })
@@ -49,7 +49,7 @@ module _ (s : Setting) (n : ℕ) (m : Moving) (d : m .divider < 4) where
       → after .moving .lines
       ≡ with-t1
       (record {
-        irq = iter (after .ends0) (latch (s .t0 .request)) (m .lines .irq);
+        requests = iter (after .ends0) (latch (s .t0 .request)) (m .lines .requests);
         tout = iter (after .ends0) (flips (s .t0 .drives)) (m .lines .tout);
         port = m .lines .port;
       })

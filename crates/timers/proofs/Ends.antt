@@ -13,6 +13,7 @@ use Rattle.serial.specs.declared.Ended.{Ended}
 use Rattle.timers.specs.Requests.{latch, latchedIf}
 use Rattle.timers.specs.Clock.{endOf, flips, askedFor, bitClock, end0Of}
 use Rattle.timers.specs.declared.Setup.{Setup}
+use Rattle.timers.specs.declared.RequestRegister.{RequestRegister}
 use Rattle.timers.specs.declared.Lines.{Lines}
 use Rattle.word.proofs.Iterate.{iter-zero, iter-suc, iter-fixed}
 use Rattle.timers.proofs.Latched.{latch-swap, if-or, if-past, if-swap}
@@ -51,20 +52,20 @@ flips-swap false false tout = refl
 
 -- part by part
 pub ends-apart : (s : Setup) (e : ℕ) (l : Lines)
-    → iter e (endOf s) l ≡ record { irq = iter e (latch (s .request)) (l .irq); tout = iter e (flips (s .drives)) (l .tout); port = l .port }
+    → iter e (endOf s) l ≡ record { requests = iter e (latch (s .request)) (l .requests); tout = iter e (flips (s .drives)) (l .tout); port = l .port }
 unfolding endOf iter
 ends-apart s zero l = refl
 ends-apart s (suc e) l = ap (endOf s) (ends-apart s e l)
 
 -- the port's requests, and then its requests again
-asked-again : (a b c d : Bool) (irq : ℕ) → askedFor c d (askedFor a b irq) ≡ askedFor (a || c) (b || d) irq
+asked-again : (a b c d : Bool) (r : RequestRegister) → askedFor c d (askedFor a b r) ≡ askedFor (a || c) (b || d) r
 unfolding askedFor
-asked-again a b c d irq =
-    ap (latchedIf c 3) (if-swap 4 3 d a (latchedIf b 4 irq)) ∙ if-or 3 a c (latchedIf d 4 (latchedIf b 4 irq)) ∙ ap (latchedIf (a || c) 3) (if-or 4 b d irq)
+asked-again a b c d r =
+    ap (latchedIf c 3) (if-swap 4 3 d a (latchedIf b 4 r)) ∙ if-or 3 a c (latchedIf d 4 (latchedIf b 4 r)) ∙ ap (latchedIf (a || c) 3) (if-or 4 b d r)
 
-asked-past : (n : ℕ) (a b : Bool) (irq : ℕ) → askedFor a b (latch n irq) ≡ latch n (askedFor a b irq)
+asked-past : (n : ℕ) (a b : Bool) (r : RequestRegister) → askedFor a b (latch n r) ≡ latch n (askedFor a b r)
 unfolding askedFor
-asked-past n a b irq = ap (latchedIf a 3) (if-past 4 n b irq) ∙ if-past 3 n a (latchedIf b 4 irq)
+asked-past n a b r = ap (latchedIf a 3) (if-past 4 n b r) ∙ if-past 3 n a (latchedIf b 4 r)
 
 -- an end of T0 while the serial port is on, and while it is off
 end-on : (m : Mode) (s : Setup) (l : Lines) → m .on ≡ true → end0Of m s l ≡ bitClock m s l
@@ -79,7 +80,7 @@ end-off m s l e = ap (λ (b : Bool). pick b (bitClock m s l) (endOf s l)) e
 pub ends-on : (m : Mode) (s : Setup) (e : ℕ) (l : Lines) → m .on ≡ true
     → iter e (end0Of m s) l
     ≡ record {
-      irq = askedFor (portEnds m e (l .port) .asked3) (portEnds m e (l .port) .asked4) (l .irq);
+      requests = askedFor (portEnds m e (l .port) .asked3) (portEnds m e (l .port) .asked4) (l .requests);
       tout = iter e (flips (s .drives)) (l .tout);
       port = portEnds m e (l .port) .port;
     }
@@ -88,7 +89,7 @@ ends-on m s zero l on = refl
 ends-on m s (suc e) l on =
     let x = iter e (morePort m) (quiet (l .port)) in
     let y = portEnd m (x .port) in
-    ap (end0Of m s) (ends-on m s e l on) ∙ end-on m s _ on ∙ rw (asked-again (x .asked3) (x .asked4) (y .asked3) (y .asked4) (l .irq))
+    ap (end0Of m s) (ends-on m s e l on) ∙ end-on m s _ on ∙ rw (asked-again (x .asked3) (x .asked4) (y .asked3) (y .asked4) (l .requests))
 
 pub ends-off : (m : Mode) (s : Setup) (e : ℕ) (l : Lines) → m .on ≡ false → iter e (end0Of m s) l ≡ iter e (endOf s) l
 unfolding iter
@@ -103,5 +104,5 @@ ends-swap m a b l = go (m .on)
     go : (on : Bool) → pick on (bitClock m a (endOf b l)) (endOf a (endOf b l)) ≡ endOf b (pick on (bitClock m a l) (endOf a l))
     go true =
         let x = portEnd m (l .port) in
-        rw (asked-past (b .request) (x .asked3) (x .asked4) (l .irq), flips-swap (a .drives) (b .drives) (l .tout))
-    go false = rw (latch-swap (a .request) (b .request) (l .irq), flips-swap (a .drives) (b .drives) (l .tout))
+        rw (asked-past (b .request) (x .asked3) (x .asked4) (l .requests), flips-swap (a .drives) (b .drives) (l .tout))
+    go false = rw (latch-swap (a .request) (b .request) (l .requests), flips-swap (a .drives) (b .drives) (l .tout))

@@ -5,13 +5,14 @@ use Prim.Native.Nat.{ℕ, _+_, _-_, _/_, _%_, _≤_, _<_}
 use native.Mathlib.Decide.{decLt}
 use native.Mathlib.Omega.{arith}
 use native.Mathlib.Nat.{le-refl}
-use lib.Dec.{eqb}
+use lib.Dec.{T, eqb}
 use lib.Bits.{bitAnd}
 use borrow.Author.Tests.{lt-ltb, le-ltb, eqb-false}
 use Rattle.word.specs.Fields.{bitOf}
 use Rattle.word.proofs.Computed.{by-test, agree}
 use Rattle.timers.specs.Control.{orHighest, setupOf, settingOf, kept, ControlBytes}
 use Rattle.timers.specs.Timer.{tick, moves, ticked, timerWritten, LegalSetup, LegalCounting}
+use Rattle.timers.specs.Requests.{requestsFit}
 use Rattle.timers.specs.Clock.{tickBoth, cycle, cycles, begun, atDivider, endOf, askedFor, bitClock, end0Of, edgeOf, written, LegalSetting, LegalMoving}
 use Rattle.timers.specs.declared.Control.{Control}
 use Rattle.timers.specs.declared.Source.{Source}
@@ -27,7 +28,7 @@ use Rattle.word.proofs.Iterate.{iter-keeps}
 use Rattle.serial.specs.Port.{portEnd, LegalPort}
 use Rattle.serial.specs.declared.Mode.{Mode}
 use Rattle.serial.proofs.Theorems as port
-use Rattle.timers.proofs.Latched.{latch-legal, if-legal}
+use Rattle.timers.proofs.Latched.{latch-fits, if-fits}
 
 -- a count whose field 0 stands for the highest is 1 to the highest
 pub highest-low : (top field : ℕ) → 0 < top → 0 < orHighest top field
@@ -60,7 +61,7 @@ setting-legal c b =
 
 -- what ends touch
 abbrev LegalLines : Lines → Type 0
-LegalLines l = (l .irq < 64) × LegalPort (l .port)
+LegalLines l = T (requestsFit (l .requests)) × LegalPort (l .port)
 
 module _ (s : Setup) (ls : LegalSetup s) where
   tick-legal : (c : Counting) → LegalCounting c → LegalCounting (tick s c .counting)
@@ -79,14 +80,14 @@ module _ (s : Setup) (ls : LegalSetup s) where
 
   end-legal : (l : Lines) → LegalLines l → LegalLines (endOf s l)
   unfolding endOf
-  end-legal l h = (latch-legal (s .request) (l .irq) (ls .request-high) (h .0), h .1)
+  end-legal l h = (latch-fits (s .request) (l .requests) (ls .request-high) (h .0), h .1)
 
   end0-legal : (m : Mode) (l : Lines) → LegalLines l → LegalLines (end0Of m s l)
   unfolding end0Of bitClock askedFor
   end0-legal m l h =
       let x = portEnd m (l .port) in
-      let irq = if-legal (x .asked3) 3 _ (omega arith) (if-legal (x .asked4) 4 (l .irq) (omega arith) (h .0)) in
-      by-test LegalLines (m .on) (λ e. (irq, port.end-legal m (l .port) (h .1))) (λ e. end-legal l h)
+      let asked = if-fits (x .asked3) 3 _ (omega arith) (if-fits (x .asked4) 4 (l .requests) (omega arith) (h .0)) in
+      by-test LegalLines (m .on) (λ e. (asked, port.end-legal m (l .port) (h .1))) (λ e. end-legal l h)
 
 module _ (s : Setting) (ls : LegalSetting s) where
   both-legal : (by : Source) (x : Spanned) → LegalMoving (x .moving) → LegalMoving (tickBoth by s x .moving)
@@ -94,12 +95,12 @@ module _ (s : Setting) (ls : LegalSetting s) where
   both-legal by x l =
       let lines : LegalLines (tickBoth by s x .moving .lines) =
       iter-keeps (endOf (s .t1)) LegalLines (end-legal (s .t1) (ls .setup1)) (ticked by (s .t1) (x .moving .t1) .ends) _
-      (iter-keeps (end0Of (s .port) (s .t0)) LegalLines (end0-legal (s .t0) (ls .setup0) (s .port)) (ticked by (s .t0) (x .moving .t0) .ends) (x .moving .lines) (l .irq-high, l .port-legal)) in
+      (iter-keeps (end0Of (s .port) (s .t0)) LegalLines (end0-legal (s .t0) (ls .setup0) (s .port)) (ticked by (s .t0) (x .moving .t0) .ends) (x .moving .lines) (l .requests-fit, l .port-legal)) in
       record {
         divider-high = l .divider-high;
         counting0 = ticked-legal (s .t0) (ls .setup0) by (x .moving .t0) (l .counting0);
         counting1 = ticked-legal (s .t1) (ls .setup1) by (x .moving .t1) (l .counting1);
-        irq-high = lines .0;
+        requests-fit = lines .0;
         port-legal = lines .1;
       }
 
@@ -108,7 +109,7 @@ module _ (s : Setting) (ls : LegalSetting s) where
   cycle-legal x l =
       let d = (x .moving .divider + 1) % 4 in
       let counted : LegalMoving (atDivider x d .moving) =
-      record { divider-high = omega arith; counting0 = l .counting0; counting1 = l .counting1; irq-high = l .irq-high; port-legal = l .port-legal } in
+      record { divider-high = omega arith; counting0 = l .counting0; counting1 = l .counting1; requests-fit = l .requests-fit; port-legal = l .port-legal } in
       by-test (λ (y : Spanned). LegalMoving (y .moving)) (eqb d 0) (λ e. both-legal Divider (atDivider x d) counted) (λ e. counted)
 
   pub cycles-legal : (n : ℕ) (m : Moving) → LegalMoving m → LegalMoving (cycles s n m .moving)
@@ -132,7 +133,7 @@ written-legal c m b l =
       divider-high = l .divider-high;
       counting0 = timer-written-legal (settingOf c .t0) _ _ (m .t0) (ls .setup0) (l .counting0);
       counting1 = timer-written-legal (settingOf c .t1) _ _ (m .t1) (ls .setup1) (l .counting1);
-      irq-high = l .irq-high;
+      requests-fit = l .requests-fit;
       port-legal = l .port-legal;
     }
 

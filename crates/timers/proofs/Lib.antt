@@ -6,4 +6,5 @@ pub mod Formula
 pub mod Legal
 pub mod Row
 pub mod BitClock
+pub mod Held
 pub mod Theorems

@@ -2,12 +2,12 @@
 use mathlib.Core.Path.{_≡_}
 use mathlib.Core.Bool.{Bool, true, not, _&&_, _||_}
 use Prim.Native.Nat.{ℕ, _+_, _-_, _*_, _%_, _≤_, _<_}
-use lib.Dec.{eqb}
+use lib.Dec.{T, eqb}
 use Rattle.word.specs.Choose.{pick}
 use Rattle.word.specs.Iter.{iter}
 use Rattle.serial.specs.Port.{portEnd, LegalPort}
 use Rattle.serial.specs.declared.Mode.{Mode}
-use Rattle.timers.specs.Requests.{latch, latchedIf}
+use Rattle.timers.specs.Requests.{latch, latchedIf, requestsFit}
 use Rattle.timers.specs.Control.{load0, enable0, load1, enable1, settingOf}
 use Rattle.timers.specs.Timer.{ticked, timerWritten, LegalSetup, LegalCounting}
 use Rattle.timers.specs.declared.Control.{Control}
@@ -16,6 +16,7 @@ use Rattle.timers.specs.declared.Source.the-variants.{Divider, Edges}
 use Rattle.timers.specs.declared.Setup.{Setup}
 use Rattle.timers.specs.declared.Setting.{Setting}
 use Rattle.timers.specs.declared.Counting.{Counting}
+use Rattle.timers.specs.declared.RequestRegister.{RequestRegister}
 use Rattle.timers.specs.declared.Lines.{Lines}
 use Rattle.timers.specs.declared.Moving.{Moving}
 use Rattle.timers.specs.declared.Spanned.{Spanned}
@@ -26,11 +27,11 @@ flips drives tout = pick drives (not tout) tout
 
 -- what an end of a timer does: it latches the timer's request, and flips T_OUT where the timer is chosen
 unfoldable pub endOf : Setup → Lines → Lines
-endOf s l = record { irq = latch (s .request) (l .irq); tout = flips (s .drives) (l .tout); port = l .port }
+endOf s l = record { requests = latch (s .request) (l .requests); tout = flips (s .drives) (l .tout); port = l .port }
 
 -- "Requests 3 and 4 come from the port while it is on" (02, C-11): IRQ with those that the port asks for
-unfoldable pub askedFor : Bool → Bool → ℕ → ℕ
-askedFor asked3 asked4 irq = latchedIf asked3 3 (latchedIf asked4 4 irq)
+unfoldable pub askedFor : Bool → Bool → RequestRegister → RequestRegister
+askedFor asked3 asked4 r = latchedIf asked3 3 (latchedIf asked4 4 r)
 
 -- an end of T0 while the serial port is on: "T_0's end-of-count signal no longer generates interrupt request IRQ_4; instead, the signal is
 -- used as the input to the divide-by-16 counters (one each for the receiver and the transmitter) which clock the data stream" (004, 12.2).
@@ -38,7 +39,7 @@ askedFor asked3 asked4 irq = latchedIf asked3 3 (latchedIf asked4 4 irq)
 unfoldable pub bitClock : Mode → Setup → Lines → Lines
 bitClock m s l =
     let x = portEnd m (l .port) in
-    record { irq = askedFor (x .asked3) (x .asked4) (l .irq); tout = flips (s .drives) (l .tout); port = x .port }
+    record { requests = askedFor (x .asked3) (x .asked4) (l .requests); tout = flips (s .drives) (l .tout); port = x .port }
 
 -- an end of T0
 unfoldable pub end0Of : Mode → Setup → Lines → Lines
@@ -99,7 +100,7 @@ written c m =
       t1 = timerWritten (s .t1) (load1 v) (enable1 v) (m .t1);
       lines =
           record {
-            irq = m .lines .irq;
+            requests = m .lines .requests;
             tout = toutWritten (s .t1) (load1 v) (toutWritten (s .t0) (load0 v) (m .lines .tout));
             port = m .lines .port;
           };
@@ -110,13 +111,13 @@ pub record LegalSetting (s : Setting) : Type 0 where
   pub setup0 : LegalSetup (s .t0)
   pub setup1 : LegalSetup (s .t1)
 
--- 01's legal machine, as far as cycles move it: "divider 0 to 3", the counts in range, "bits [..] 6 and 7 of IRQ" zero, and the
--- serial port's bytes. (T_OUT is 0 or 1 by its type.)
+-- 01's legal machine, as far as cycles move it: "divider 0 to 3", the counts in range, IRQ as it may be, and the serial port's bytes. (T_OUT is
+-- 0 or 1 by its type.)
 pub record LegalMoving (m : Moving) : Type 0 where
   pub divider-high : m .divider < 4
   pub counting0 : LegalCounting (m .t0)
   pub counting1 : LegalCounting (m .t1)
-  pub irq-high : m .lines .irq < 64
+  pub requests-fit : T (requestsFit (m .lines .requests))
   pub port-legal : LegalPort (m .lines .port)
 
 -- The closed formula, of either timer.

@@ -2,6 +2,7 @@
 use crate::Control;
 use crate::Lines;
 use crate::Moving;
+use crate::RequestRegister;
 use crate::Setting;
 use crate::Setup;
 use crate::Source;
@@ -18,15 +19,15 @@ ghost use Rattle.timers.specs.Timer.{LegalSetup};
 ghost use Rattle.timers.specs.Clock.{flips, endOf, end0Of, tickBoth, begun, cycles, edgeOf, toutWritten, written, LegalSetting, LegalMoving};
 ghost use Rattle.timers.specs.ForCode.{roundOf, asBefore, fewCycles};
 
-// IRQ after e ends that latch request n.
-fn raised(n: u8, irq: u8, e: u32) -> u8
+// The request register after e ends that latch request n.
+fn raised(n: u8, r: RequestRegister, e: u32) -> RequestRegister
     requires { ⌜ n < 6 ⌝ }
-    ensures { λ r. ⌜ r ≡ iter e (latch n) irq ⌝ }
+    ensures { λ a. ⌜ a ≡ iter e (latch n) r ⌝ }
 {
     if 0 < e {
-        crate::requests::latch(n, irq)
+        crate::requests::latch(n, r)
     } else {
-        irq
+        r
     }
 }
 
@@ -46,9 +47,14 @@ fn ended(s: Setup, l: Lines, e: u32) -> Lines
     ensures { λ r. ⌜ r ≡ iter e (endOf s) l ⌝ }
 {
     let port = l.port;
-    let irq = raised(s.request, l.irq, e);
+    let before = l.requests;
+    let requests = raised(s.request, before, e);
     let tout = level(s.drives, l.tout, e);
-    Lines { irq, tout, port }
+    Lines {
+        requests,
+        tout,
+        port,
+    }
 }
 
 // What e ends of T0 do: while the serial port is on they are its ends.
@@ -62,12 +68,17 @@ fn ended0(m: Mode, s: Setup, l: Lines, e: u32) -> Lines
         return ended(s, l, e);
     }
     let before = l.port;
+    let asked = l.requests;
     let x = serial::ends(m, before, e);
-    let sent = crate::requests::latched_if(x.asked4, 4, l.irq);
-    let irq = crate::requests::latched_if(x.asked3, 3, sent);
+    let sent = crate::requests::latched_if(x.asked4, 4, asked);
+    let requests = crate::requests::latched_if(x.asked3, 3, sent);
     let tout = level(s.drives, l.tout, e);
     let port = x.port;
-    Lines { irq, tout, port }
+    Lines {
+        requests,
+        tout,
+        port,
+    }
 }
 
 // k ticks from this source, for both timers.
@@ -233,6 +244,7 @@ pub fn write_tmr(c: Control, m: Moving) -> Moving
 {
     let v = c.tmr;
     let lines = m.lines;
+    let requests = lines.requests;
     let port = lines.port;
     let c0 = m.t0;
     let c1 = m.t1;
@@ -248,7 +260,7 @@ pub fn write_tmr(c: Control, m: Moving) -> Moving
     let first = tout_written(s0, load0, lines.tout);
     let second = tout_written(s1, load1, first);
     let after = Lines {
-        irq: lines.irq,
+        requests,
         tout: second,
         port,
     };

@@ -63,9 +63,15 @@ pub struct Ticked {
     pub ends: u32,
 }
 
-// What the ends touch: IRQ, the T_OUT level, and the serial port.
-pub struct Lines {
+// The request register: what IRQ holds, and whether an EI has released it.
+pub struct RequestRegister {
     pub irq: u8,
+    pub released: bool,
+}
+
+// What the ends touch: the request register, the T_OUT level, and the serial port.
+pub struct Lines {
+    pub requests: RequestRegister,
     pub tout: bool,
     pub port: Port,
 }

@@ -56,3 +56,9 @@ module _ {A : Type 0} (f g : A → A) (swap : (x : A) → f (g x) ≡ g (f x)) w
       ap (iter b g) (iter-swap a d (iter c f x))
       ∙ sym (iter-split g (d + b) b d (add-comm d b) (iter a f (iter c f x)))
       ∙ ap (iter (d + b) g) (sym (iter-split f (c + a) a c (add-comm c a) x))
+
+-- what is alike stays alike
+pub iter-alike : {A : Type 0} (f : A → A) (R : A → A → Type 0) → ((x y : A) → R x y → R (f x) (f y)) → (n : ℕ) (x y : A) → R x y → R (iter n f x) (iter n f y)
+unfolding iter
+iter-alike f R h zero x y p = p
+iter-alike f R h (suc n) x y p = h (iter n f x) (iter n f y) (iter-alike f R h n x y p)

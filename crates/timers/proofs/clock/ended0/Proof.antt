@@ -33,13 +33,13 @@ returns-2 : tie.Need-returns-2
 unfolding askedFor
 returns-2 c =
     let tout : tie.After-level = c .before in
-    let irq : tie.After-latched-if2 = tout .before in
-    let sent : tie.After-latched-if = irq .before in
+    let requests : tie.After-latched-if2 = tout .before in
+    let sent : tie.After-latched-if = requests .before in
     let port : tie.After-ends = sent .before in
-    let a = port .before .before .before .args in
-    let on : a .m .on ≡ true = not-false _ (port .before .before .if1 .left) in
-    let heard : irq .latched-if2 .result ≡ latchedIf (port .ends .result .asked3) 3 (sent .latched-if .result) = irq .latched-if2 .ensures in
-    let done : sent .latched-if .result ≡ latchedIf (port .ends .result .asked4) 4 (a .l .irq) = sent .latched-if .ensures in
+    let a = port .before .before .before .before .args in
+    let on : a .m .on ≡ true = not-false _ (port .before .before .before .if1 .left) in
+    let heard : requests .latched-if2 .result ≡ latchedIf (port .ends .result .asked3) 3 (sent .latched-if .result) = requests .latched-if2 .ensures in
+    let done : sent .latched-if .result ≡ latchedIf (port .ends .result .asked4) 4 (a .l .requests) = sent .latched-if .ensures in
     rw (tout .level .ensures, heard, done, port .ends .ensures) (sym (ends-on (a .m) (a .s) (a .e) (a .l) on))
 
 pub ended0-spec : {M : Type 1} → statement M

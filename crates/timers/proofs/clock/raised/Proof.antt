@@ -11,12 +11,12 @@ latch-requires : tie.Need-latch-requires
 latch-requires c κs = search needs
 
 returns : tie.Need-returns
-returns c = c .latch .ensures ∙ sym (latch-often (c .before .before .args .n) (c .before .before .args .e) (c .before .before .args .irq) (c .before .if1 .taken))
+returns c = c .latch .ensures ∙ sym (latch-often (c .before .before .args .n) (c .before .before .args .e) (c .before .before .args .r) (c .before .if1 .taken))
 
 returns-2 : tie.Need-returns-2
 returns-2 c =
     let none : c .before .args .e ≡ 0 = omega (arith, c .if1 .left) in
-    rw none (sym (iter-zero (latch (c .before .args .n)) (c .before .args .irq)))
+    rw none (sym (iter-zero (latch (c .before .args .n)) (c .before .args .r)))
 
 pub raised-spec : {M : Type 1} → statement M
 raised-spec = tie.close (tie.spec latch-requires returns returns-2)

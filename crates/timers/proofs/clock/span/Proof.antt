@@ -26,7 +26,7 @@ tick-both-requires c κs =
     let m = st .args .m in
     let l = st .pre in
     let after : Moving = record { divider = (m .divider + st .args .n) % 4; t0 = m .t0; t1 = m .t1; lines = m .lines } in
-    let legal : LegalMoving after = record { divider-high = omega arith; counting0 = l .counting0; counting1 = l .counting1; irq-high = l .irq-high; port-legal = l .port-legal } in
+    let legal : LegalMoving after = record { divider-high = omega arith; counting0 = l .counting0; counting1 = l .counting1; requests-fit = l .requests-fit; port-legal = l .port-legal } in
     (rw (c .before .setting .ensures) (setting-legal (st .args .c) (bytes st)), rw (c .go-round .ensures) legal)
 
 returns : tie.Need-returns
