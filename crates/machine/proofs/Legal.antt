@@ -1,10 +1,12 @@
 -- A legal machine stays legal: each store, the stack, reset, cycles. And what registers and ports read is a byte.
-use mathlib.Core.Path.{_≡_, _∙_, refl}
+use mathlib.Core.Path.{_≡_, _∙_, refl, ap}
+use mathlib.Core.Logic.{_≢_}
 use mathlib.Core.Bool.{Bool, true, false, not, _&&_, _||_}
 use mathlib.Core.List.{List, [], _∷_}
 use Prim.Native.Nat.{ℕ, zero, suc, _+_, _-_, _*_, _%_, _<_}
 use native.Mathlib.Omega.{arith}
-use borrow.Author.Tests.{ltb-true, eqb-true, lt-ltb}
+use native.Mathlib.Decide.{ℕ-discrete}
+use borrow.Author.Tests.{ltb-true, eqb-true, lt-ltb, eq-eqb, ne-eqb}
 use lib.Dec.{T, eqb, ltb, lit<, lit≤, ltb→lt}
 use lib.Bits.{bitAnd, and-lt, or-lt}
 use lib.ListN.{length, getD, replicate}
@@ -12,6 +14,8 @@ use Rattle.word.specs.Choose.{pick}
 use Rattle.word.specs.Fields.{upper, lower, highByte, lowByte}
 use Rattle.word.specs.Words.{plus}
 use Rattle.word.proofs.Computed.{by-test, below, at, under, and-left, and-right}
+use Rattle.timers.specs.Requests.{requestsFit}
+use Rattle.timers.proofs.Latched.{fits-irq, zero-fits, released-fits}
 use Rattle.timers.specs.Control.{ControlBytes, settingOf, kept}
 use Rattle.timers.specs.Timer.{LegalCounting}
 use Rattle.timers.specs.Clock.{cycles, written, LegalSetting, LegalMoving}
@@ -22,12 +26,13 @@ use Rattle.serial.specs.declared.Port.{Port}
 use Rattle.serial.specs.declared.Mode.{Mode}
 use Rattle.serial.proofs.Theorems.{idle-legal, waiting-legal, stored-legal}
 use Rattle.timers.proofs.Legal.{setting-legal, written-legal, cycles-legal}
-use Rattle.machine.specs.State.{heldIn, placedIn, held, placed, withPc, withLast3, withPort, withTransmitter}
+use Rattle.machine.specs.State.{heldIn, placedIn, held, placed, withPc, withLast3, withReleased, withPort, withTransmitter}
 use Rattle.machine.specs.Ports.{masked, port0Directions, port1Directions, port2Directions, port3Directions, directionsOf, portStores, portReads, pinsOf, ofPort}
 use Rattle.machine.specs.Clock.{controlWith, controlOf, movingOf, enabling, countsAt, movedTo, writeTmr, spanOf, shown}
 use Rattle.machine.specs.Serial.{portMode, writeSio}
 use Rattle.machine.proofs.Sio.{sio-either, sio-byte}
-use Rattle.machine.specs.Registers.{isHole, isWriteOnly, portDirections, readPort, writePort, readReg, writeReg}
+use Rattle.machine.proofs.Held.{irq-either}
+use Rattle.machine.specs.Registers.{isHole, isWriteOnly, portDirections, readPort, writePort, writeIrq, readReg, writeReg}
 use Rattle.machine.specs.Addresses.{workingAt, registerAt, indexedAt, evenOf, readPair, writePair}
 use Rattle.machine.specs.Stack.{Stacked, spl, spOf, spSet, writtenFrom, pushedInternal, pushedExternal, pushed, stackByte, raised, isInternal}
 use Rattle.machine.specs.Start.{Place, placedAll, resetPlaces, resetOf, newOf, startedWith, restingPort, defaultOf, madeOf, isKind, isCost}
@@ -38,39 +43,61 @@ use Rattle.machine.specs.declared.Bytes as bytes
 use Rattle.machine.specs.declared.Pins.{Pins}
 use Rattle.machine.specs.declared.start.Made.{Made}
 use Rattle.machine.specs.declared.ports.Directions.{Directions}
-use Rattle.machine.proofs.Places.{place-long, each-placed}
-use Rattle.machine.proofs.Lens.{span-is, every}
+use Rattle.machine.proofs.Places.{place-long, held-same, held-other, each-placed}
+use Rattle.machine.proofs.Lens.{put-seen, span-is, every}
 
 -- a file with a place that holds what it may
-pub file-placed : {l : List ℕ} (a v : ℕ) → LegalFile l → a < 256 → v < 256 → T (mayHold a v) → LegalFile (placedIn l a v)
-file-placed {l} a v f h byte may =
+pub file-placed : {e : Bool} {l : List ℕ} (a v : ℕ) → LegalFile e l → a < 256 → v < 256 → T (mayHold e a v) → LegalFile e (placedIn l a v)
+file-placed {e} {l} a v f h byte may =
     record {
       long = place-long l a v ∙ f .long;
-      bytes = each-placed (λ b w. w < 256) l a v (f .long) h byte (f .bytes);
-      places = each-placed (λ b w. T (mayHold b w)) l a v (f .long) h may (f .places);
+      bytes = each-placed (λ b w. w < 256) l a v (f .long) h byte (λ b n. f .bytes b);
+      places = each-placed (λ b w. T (mayHold e b w)) l a v (f .long) h may (λ b n. f .places b);
     }
+
+-- whether IRQ is released is no matter of any other place
+other-may : (e f : Bool) (a v : ℕ) → a ≢ 0xFA → T (mayHold e a v) → T (mayHold f a v)
+unfolding mayHold
+other-may e f a v n t =
+    let out : eqb a 0xFA ≡ false = ne-eqb a 0xFA n in
+    let same : mayHold f a v ≡ mayHold e a v = rw out in
+    rw same t
+
+pub file-marked : {e : Bool} (f : Bool) {l : List ℕ} → LegalFile e l → T (mayHold f 0xFA (heldIn l 0xFA)) → LegalFile f l
+file-marked {e} f {l} k may = record { long = k .long; bytes = k .bytes; places = λ a. go a (ℕ-discrete a 0xFA) }
+  where
+    go : (a : ℕ) → Dec (a ≡ 0xFA) → T (mayHold f a (heldIn l a))
+    go a (yes own) = rw own may
+    go a (no other) = other-may e f a (heldIn l a) other (k .places a)
 
 implied : (a b : Bool) → T (not a || b) → T a → T b
 implied true b u t = u
 implied false b u t = absurd t
 
--- IRQ of a legal file is below 64
-pub irq-small : (v : ℕ) → v < 256 → T (mayHold 0xFA v) → v < 64
+-- what IRQ may hold is what fits the request register
+pub may-fit : (e : Bool) (v : ℕ) → T (mayHold e 0xFA v) → T (requestsFit (record { irq = v; released = e }))
 unfolding mayHold
-irq-small v h t = ltb→lt v 64 (implied (mayHold 0xFA v) (ltb v 64) (at (λ x. not (mayHold 0xFA x) || ltb x 64) 256 tt v h) t)
+may-fit e v t = t
 
-pub irq-fits : (v : ℕ) → v < 64 → T (mayHold 0xFA v)
+pub fits-may : (e : Bool) (v : ℕ) → T (requestsFit (record { irq = v; released = e })) → T (mayHold e 0xFA v)
 unfolding mayHold
-irq-fits v h = at (λ x. mayHold 0xFA x) 64 tt v h
+fits-may e v t = t
+
+-- what fits while IRQ is held fits once it is released
+file-released : {e : Bool} {l : List ℕ} → LegalFile e l → LegalFile true l
+file-released {e} {l} f =
+    let v = heldIn l 0xFA in
+    let small : v < 64 = fits-irq (record { irq = v; released = e }) (may-fit e v (f .places 0xFA)) in
+    file-marked true f (fits-may true v (released-fits v small))
 
 -- the enable bit is no matter of legality
 recounted : {t : Timer} {e f : Bool} → LegalCounting (record { timer = t; enabled = e }) → LegalCounting (record { timer = t; enabled = f })
 recounted l =
     record { prescaler-low = l .prescaler-low; prescaler-high = l .prescaler-high; counter-low = l .counter-low; counter-high = l .counter-high }
 
-pub placed-legal : {m : Machine} (a v : ℕ) → Legal m → a < 256 → v < 256 → T (mayHold a v) → Legal (placed m a v)
+pub placed-legal : {m : Machine} (a v : ℕ) → Legal m → a < 256 → v < 256 → T (mayHold (m .released) a v) → Legal (placed m a v)
 unfolding placed movingOf
-placed-legal a v l h byte may =
+placed-legal {m} a v l h byte may =
     let f = file-placed a v (l .file) h byte may in
     record {
       file = f;
@@ -80,7 +107,7 @@ placed-legal a v l h byte may =
             divider-high = l .moving .divider-high;
             counting0 = recounted (l .moving .counting0);
             counting1 = recounted (l .moving .counting1);
-            irq-high = irq-small _ (f .bytes 0xFA) (f .places 0xFA);
+            requests-fit = may-fit (m .released) _ (f .places 0xFA);
             port-legal = l .moving .port-legal;
           };
       last3-byte = l .last3-byte;
@@ -99,7 +126,7 @@ counts-legal x l k =
             divider-high = k .divider-high;
             counting0 = recounted (k .counting0);
             counting1 = recounted (k .counting1);
-            irq-high = l .moving .irq-high;
+            requests-fit = l .moving .requests-fit;
             port-legal = l .moving .port-legal;
           };
       last3-byte = l .last3-byte;
@@ -124,7 +151,28 @@ with-port-legal p l h =
     record {
       file = l .file;
       pc-word = l .pc-word;
-      moving = record { divider-high = x .divider-high; counting0 = x .counting0; counting1 = x .counting1; irq-high = x .irq-high; port-legal = h };
+      moving = record { divider-high = x .divider-high; counting0 = x .counting0; counting1 = x .counting1; requests-fit = x .requests-fit; port-legal = h };
+      last3-byte = l .last3-byte;
+      kind = l .kind;
+      cost = l .cost;
+    }
+
+pub released-legal : {m : Machine} → Legal m → Legal (withReleased m true)
+unfolding withReleased movingOf
+released-legal {m} l =
+    let x = l .moving in
+    let f = file-released (l .file) in
+    record {
+      file = f;
+      pc-word = l .pc-word;
+      moving =
+          record {
+            divider-high = x .divider-high;
+            counting0 = x .counting0;
+            counting1 = x .counting1;
+            requests-fit = may-fit true (held m 0xFA) (f .places 0xFA);
+            port-legal = x .port-legal;
+          };
       last3-byte = l .last3-byte;
       kind = l .kind;
       cost = l .cost;
@@ -175,17 +223,16 @@ kept-byte : (v : ℕ) → v < 256 → kept v < 256
 unfolding kept
 kept-byte v h = and-lt 8 v 0xFA h (lit< tt)
 
-kept-may : (v : ℕ) → v < 256 → T (mayHold 0xF1 (kept v))
+kept-may : (e : Bool) (v : ℕ) → v < 256 → T (mayHold e 0xF1 (kept v))
 unfolding mayHold kept
-kept-may v h = at (λ x. mayHold 0xF1 (kept x)) 256 tt v h
+kept-may e v h = at (λ x. mayHold e 0xF1 (kept x)) 256 tt v h
 
-irq-may : (v : ℕ) → v < 256 → T (mayHold 0xFA (v % 64))
-unfolding mayHold
-irq-may v h = at (λ x. mayHold 0xFA (x % 64)) 256 tt v h
+irq-may : (e : Bool) (v : ℕ) → e ≡ true → T (mayHold e 0xFA (v % 64))
+irq-may e v released = rw released (fits-may true (v % 64) (released-fits (v % 64) (omega arith)))
 
-rp-may : (v : ℕ) → v < 256 → T (mayHold 0xFD (upper v * 16))
+rp-may : (e : Bool) (v : ℕ) → v < 256 → T (mayHold e 0xFD (upper v * 16))
 unfolding mayHold
-rp-may v h = at (λ x. mayHold 0xFD (upper x * 16)) 256 tt v h
+rp-may e v h = at (λ x. mayHold e 0xFD (upper x * 16)) 256 tt v h
 
 -- what a register reads is a byte
 module _ {m : Machine} (l : Legal m) where
@@ -217,7 +264,7 @@ module _ {m : Machine} (l : Legal m) where
   port-legal a v h hv =
       placed-legal a _ l (omega arith)
       (masked-byte (portDirections m a .address) (held m a) v (port-lines a .address-byte) (l .file .bytes a) hv)
-      (under (ltb a 0x04) _ (at (λ x. not (ltb x 0x04) || mayHold x (masked (portDirections m a .address) (held m a) v)) 256 tt a (omega arith)) (lt-ltb a 0x04 h))
+      (under (ltb a 0x04) _ (at (λ x. not (ltb x 0x04) || mayHold (m .released) x (masked (portDirections m a .address) (held m a) v)) 256 tt a (omega arith)) (lt-ltb a 0x04 h))
 
   registers-bytes : (tmr : ℕ) → ControlBytes (controlWith m tmr)
   unfolding controlWith
@@ -225,13 +272,13 @@ module _ {m : Machine} (l : Legal m) where
       record { t1-byte = l .file .bytes 0xF2; pre1-byte = l .file .bytes 0xF3; t0-byte = l .file .bytes 0xF4; pre0-byte = l .file .bytes 0xF5 }
 
   tmr-legal : (v : ℕ) → v < 256 → Legal (writeTmr m v)
-  unfolding writeTmr
+  unfolding writeTmr countsAt
   tmr-legal v hv =
       placed-legal 0xF1 (kept v)
       (counts-legal (written (controlWith m v) (movingOf m)) l (written-legal (controlWith m v) (movingOf m) (registers-bytes v) (l .moving)))
       (lit< tt)
       (kept-byte v hv)
-      (kept-may v hv)
+      (kept-may (m .released) v hv)
 
   sio-legal : (v : ℕ) → v < 256 → Legal (writeSio m v)
   unfolding withTransmitter
@@ -239,14 +286,17 @@ module _ {m : Machine} (l : Legal m) where
       let sends : LegalPort _ = record { legal-receiver = own-port .legal-receiver; legal-transmitter = stored-legal (portMode m .parity) v hv } in
       sio-either m v Legal (with-port-legal _ l sends) l
 
+  irq-legal : (v : ℕ) → Legal (writeIrq m v)
+  irq-legal v = irq-either m v Legal (λ released. placed-legal 0xFA (v % 64) l (lit< tt) (omega arith) (irq-may (m .released) v released)) l
+
   pub write-legal : (a v : ℕ) → a < 256 → v < 256 → Legal (writeReg m a v)
   unfolding writeReg mayHold
   write-legal a v ha hv =
       by-test Legal (ltb a 0x04) (λ t. port-legal a v (ltb-true a 0x04 t) hv) (λ t.
       by-test Legal (isHole a) (λ u. by-test Legal (eqb a 0xF0) (λ e. sio-legal v hv) (λ e. l)) (λ hole.
       by-test Legal (eqb a 0xF1) (λ e. tmr-legal v hv) (λ n1.
-      by-test Legal (eqb a 0xFA) (λ e. placed-legal a (v % 64) l ha (omega arith) (rw (eqb-true a 0xFA e) (irq-may v hv))) (λ na.
-      by-test Legal (eqb a 0xFD) (λ e. placed-legal a (upper v * 16) l ha (omega arith) (rw (eqb-true a 0xFD e) (rp-may v hv))) (λ nd.
+      by-test Legal (eqb a 0xFA) (λ e. irq-legal v) (λ na.
+      by-test Legal (eqb a 0xFD) (λ e. placed-legal a (upper v * 16) l ha (omega arith) (rw (eqb-true a 0xFD e) (rp-may (m .released) v hv))) (λ nd.
       placed-legal a v l ha hv (rw (hole, n1, na, nd) tt))))))
 
 -- ---- pairs and the stack
@@ -290,31 +340,57 @@ raised-legal {m} n l =
 
 -- ---- reset and the new machine
 abbrev fits : Place → Bool
-fits p = ltb (p .address) 256 && (ltb (p .byte) 256 && mayHold (p .address) (p .byte))
+fits p = ltb (p .address) 256 && (ltb (p .byte) 256 && mayHold true (p .address) (p .byte))
 
 abbrev allFit : List Place → Bool
 allFit [] = true
 allFit (p ∷ ps) = fits p && allFit ps
 
-all-placed : {l : List ℕ} (ps : List Place) → T (allFit ps) → LegalFile l → LegalFile (placedAll l ps)
+all-placed : {l : List ℕ} (ps : List Place) → T (allFit ps) → LegalFile true l → LegalFile true (placedAll l ps)
 all-placed [] t f = f
 all-placed (p ∷ ps) t f =
     let here = and-left (fits p) (allFit ps) t in
-    let more = and-right (ltb (p .address) 256) (ltb (p .byte) 256 && mayHold (p .address) (p .byte)) here in
+    let more = and-right (ltb (p .address) 256) (ltb (p .byte) 256 && mayHold true (p .address) (p .byte)) here in
     all-placed ps (and-right (fits p) (allFit ps) t)
     (file-placed (p .address) (p .byte) f
     (ltb→lt (p .address) 256 (and-left (ltb (p .address) 256) _ here))
-    (ltb→lt (p .byte) 256 (and-left (ltb (p .byte) 256) (mayHold (p .address) (p .byte)) more))
-    (and-right (ltb (p .byte) 256) (mayHold (p .address) (p .byte)) more))
+    (ltb→lt (p .byte) 256 (and-left (ltb (p .byte) 256) (mayHold true (p .address) (p .byte)) more))
+    (and-right (ltb (p .byte) 256) (mayHold true (p .address) (p .byte)) more))
+
+reset-fits : T (allFit resetPlaces)
+unfolding resetPlaces mayHold requestsFit
+reset-fits = tt
+
+-- what a place holds when all are placed: the last that is placed there
+abbrev lastAt : ℕ → List Place → ℕ → ℕ
+lastAt a [] v = v
+lastAt a (p ∷ ps) v = lastAt a ps (pick (eqb a (p .address)) (p .byte) v)
+
+held-placed : (l : List ℕ) (p : Place) (a : ℕ) → length l ≡ 256 → p .address < 256
+    → heldIn (placedIn l (p .address) (p .byte)) a ≡ pick (eqb a (p .address)) (p .byte) (heldIn l a)
+held-placed l p a long h = go (ℕ-discrete a (p .address))
+  where
+    go : Dec (a ≡ p .address) → heldIn (placedIn l (p .address) (p .byte)) a ≡ pick (eqb a (p .address)) (p .byte) (heldIn l a)
+    go (yes own) = rw (own, eq-eqb (p .address) (p .address) refl) (held-same l (p .address) (p .byte) long h)
+    go (no other) = rw (ne-eqb a (p .address) other) (held-other l (p .address) a (p .byte) other)
+
+all-held : (l : List ℕ) (ps : List Place) (a : ℕ) → T (allFit ps) → length l ≡ 256 → heldIn (placedAll l ps) a ≡ lastAt a ps (heldIn l a)
+all-held l [] a t long = refl
+all-held l (p ∷ ps) a t long =
+    let h : p .address < 256 = ltb→lt (p .address) 256 (and-left (ltb (p .address) 256) _ (and-left (fits p) (allFit ps) t)) in
+    all-held (placedIn l (p .address) (p .byte)) ps a (and-right (fits p) (allFit ps) t) (place-long l (p .address) (p .byte) ∙ long)
+    ∙ ap (lastAt a ps) (held-placed l p a long h)
 
 pub resting-legal : LegalPort restingPort
 resting-legal = record { legal-receiver = waiting-legal 0 (lit< tt); legal-transmitter = idle-legal }
 
 -- a legal file, a type and an entry cost make a legal machine
-started-legal : (file : List ℕ) (kind cost : ℕ) → LegalFile file → T (isKind kind) → T (isCost cost) → Legal (startedWith file kind cost)
-unfolding resetPlaces mayHold movingOf
+started-legal : {e : Bool} (file : List ℕ) (kind cost : ℕ) → LegalFile e file → T (isKind kind) → T (isCost cost) → Legal (startedWith file kind cost)
+unfolding resetPlaces movingOf
 started-legal file kind cost f k c =
-    let after = all-placed resetPlaces tt f in
+    let irq-zero : heldIn (placedAll file resetPlaces) 0xFA ≡ 0 = all-held file resetPlaces 0xFA reset-fits (f .long) in
+    let after : LegalFile false (placedAll file resetPlaces) =
+    file-marked false (all-placed resetPlaces reset-fits (file-released f)) (rw irq-zero (fits-may false 0 (zero-fits false))) in
     record {
       file = after;
       pc-word = lit< tt;
@@ -323,7 +399,7 @@ started-legal file kind cost f k c =
             divider-high = lit< tt;
             counting0 = record { prescaler-low = lit< tt; prescaler-high = lit≤ tt; counter-low = lit< tt; counter-high = lit≤ tt };
             counting1 = record { prescaler-low = lit< tt; prescaler-high = lit≤ tt; counter-low = lit< tt; counter-high = lit≤ tt };
-            irq-high = irq-small _ (after .bytes 0xFA) (after .places 0xFA);
+            requests-fit = may-fit false _ (after .places 0xFA);
             port-legal = resting-legal;
           };
       last3-byte = lit< tt;
@@ -341,18 +417,19 @@ zero-held zero a = refl
 zero-held (suc n) zero = refl
 zero-held (suc n) (suc a) = zero-held n a
 
-pub zero-may : (a : ℕ) → T (mayHold a 0)
+pub zero-may : (e : Bool) (a : ℕ) → T (mayHold e a 0)
 unfolding mayHold
-zero-may a =
-    by-test T (isHole a) (λ t. tt) (λ t. by-test T (eqb a 0xF1) (λ u. tt) (λ u. by-test T (eqb a 0xFA) (λ w. tt) (λ w. by-test T (eqb a 0xFD) (λ z. tt) (λ z. tt))))
+zero-may e a =
+    by-test T (isHole a) (λ t. tt) (λ t.
+    by-test T (eqb a 0xF1) (λ u. tt) (λ u. by-test T (eqb a 0xFA) (λ w. zero-fits e) (λ w. by-test T (eqb a 0xFD) (λ z. tt) (λ z. tt))))
 
-zeros-legal : LegalFile (replicate 256 0)
+zeros-legal : LegalFile false (replicate 256 0)
 unfolding heldIn
 zeros-legal =
     record {
       long = refl;
       bytes = λ a. rw (zero-held 256 a) (lit< tt);
-      places = λ a. rw (zero-held 256 a) (zero-may a);
+      places = λ a. rw (zero-held 256 a) (zero-may false a);
     }
 
 pub new-legal : (kind cost : ℕ) → T (isKind kind) → T (isCost cost) → Legal (newOf kind cost)
@@ -360,22 +437,34 @@ unfolding newOf
 new-legal kind cost k c = started-legal (replicate 256 0) kind cost zeros-legal k c
 
 -- ---- cycles
-enabling-may : (a b : Bool) (x : ℕ) → x < 256 → T (mayHold 0xF1 x) → (enabling x a b < 256) × T (mayHold 0xF1 (enabling x a b))
+enabling-may : (e a b : Bool) (x : ℕ) → x < 256 → T (mayHold e 0xF1 x) → (enabling x a b < 256) × T (mayHold e 0xF1 (enabling x a b))
 unfolding enabling mayHold
-enabling-may a b x h t = (
+enabling-may e a b x h t = (
   ltb→lt (enabling x a b) 256 (rw (every (λ c d y. ltb (enabling y c d) 256) (λ c d y. true) refl refl refl refl a b x h) tt),
-  implied (mayHold 0xF1 x) (mayHold 0xF1 (enabling x a b)) (rw (every (λ c d y. not (mayHold 0xF1 y) || mayHold 0xF1 (enabling y c d)) (λ c d y. true) refl refl refl refl a b x h) tt) t,
+  implied (mayHold e 0xF1 x) (mayHold e 0xF1 (enabling x a b)) (rw (every (λ c d y. not (mayHold e 0xF1 y) || mayHold e 0xF1 (enabling y c d)) (λ c d y. true) refl refl refl refl a b x h) tt) t,
 )
 
 pub moved-legal : {m : Machine} (x : Moving) → Legal m → LegalMoving x → Legal (movedTo m x)
-unfolding movedTo countsAt withPort
+unfolding movedTo placed countsAt withReleased withPort
 moved-legal {m} x l k =
-    let e = enabling-may (x .t0 .enabled) (x .t1 .enabled) (held m 0xF1) (l .file .bytes 0xF1) (l .file .places 0xF1) in
-    placed-legal 0xFA (x .lines .irq)
-    (placed-legal 0xF1 (enabling (held m 0xF1) (x .t0 .enabled) (x .t1 .enabled)) (with-port-legal (x .lines .port) (counts-legal x l k) (k .port-legal)) (lit< tt) (e .0) (e .1))
-    (lit< tt)
-    (omega (arith, k .irq-high))
-    (irq-fits (x .lines .irq) (k .irq-high))
+    let r = x .lines .requests in
+    let tmr = enabling (held m 0xF1) (x .t0 .enabled) (x .t1 .enabled) in
+    let small : r .irq < 64 = fits-irq r (k .requests-fit) in
+    let e = enabling-may true (x .t0 .enabled) (x .t1 .enabled) (held m 0xF1) (l .file .bytes 0xF1) (file-released (l .file) .places 0xF1) in
+    let with-tmr : LegalFile true (placedIn (m .regs) 0xF1 tmr) = file-placed 0xF1 tmr (file-released (l .file)) (lit< tt) (e .0) (e .1) in
+    let with-irq : LegalFile true (placedIn (placedIn (m .regs) 0xF1 tmr) 0xFA (r .irq)) =
+    file-placed 0xFA (r .irq) with-tmr (lit< tt) (omega (arith, small)) (fits-may true (r .irq) (released-fits (r .irq) small)) in
+    let seen : LegalMoving (movingOf (movedTo m x)) = rw (put-seen m (l .file .long) (l .file .bytes 0xF1) x) k in
+    record {
+      file =
+          file-marked (r .released) with-irq
+          (rw (held-same (placedIn (m .regs) 0xF1 tmr) 0xFA (r .irq) (with-tmr .long) (lit< tt)) (fits-may (r .released) (r .irq) (k .requests-fit)));
+      pc-word = l .pc-word;
+      moving = seen;
+      last3-byte = l .last3-byte;
+      kind = l .kind;
+      cost = l .cost;
+    }
 
 pub setting-of : {m : Machine} → Legal m → LegalSetting (settingOf (controlOf m))
 unfolding controlOf

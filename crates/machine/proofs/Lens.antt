@@ -15,7 +15,7 @@ use Rattle.timers.specs.declared.Setting.{Setting}
 use Rattle.timers.specs.declared.Spanned.{Spanned}
 use Rattle.timers.proofs.Cycles.{counting, few-is}
 use Rattle.timers.proofs.Theorems.{cycles-within}
-use Rattle.machine.specs.State.{placedIn, held, placed, withPort}
+use Rattle.machine.specs.State.{placedIn, held, placed, withReleased, withPort}
 use Rattle.machine.specs.Clock.{Ran, controlWith, controlOf, movingOf, enabling, countsAt, movedTo, seen, shown, cycleOf, spanOf}
 use Rattle.machine.specs.declared.Machine.{Machine}
 use Rattle.machine.proofs.Places.{place-long, held-same, held-other, place-own, places-again}
@@ -69,29 +69,29 @@ module _ (m : Machine) (long : length (m .regs) ≡ 256) (tmr-byte : held m 0xF1
 
   -- the places after a put
   pub put-tmr : held (movedTo m x) 0xF1 ≡ tmr-put
-  unfolding movedTo placed countsAt withPort
+  unfolding movedTo placed countsAt withReleased withPort
   put-tmr =
-      held-other (placedIn (m .regs) 0xF1 tmr-put) 0xFA 0xF1 (x .lines .irq) (omega arith)
+      held-other (placedIn (m .regs) 0xF1 tmr-put) 0xFA 0xF1 (x .lines .requests .irq) (omega arith)
       ∙ held-same (m .regs) 0xF1 tmr-put long (omega arith)
 
-  pub put-irq : held (movedTo m x) 0xFA ≡ x .lines .irq
-  unfolding movedTo placed countsAt withPort
-  put-irq = held-same (placedIn (m .regs) 0xF1 tmr-put) 0xFA (x .lines .irq) (place-long (m .regs) 0xF1 tmr-put ∙ long) (omega arith)
+  pub put-irq : held (movedTo m x) 0xFA ≡ x .lines .requests .irq
+  unfolding movedTo placed countsAt withReleased withPort
+  put-irq = held-same (placedIn (m .regs) 0xF1 tmr-put) 0xFA (x .lines .requests .irq) (place-long (m .regs) 0xF1 tmr-put ∙ long) (omega arith)
 
   pub put-other : (a : ℕ) → (a ≡ 0xF1 → ⊥) → (a ≡ 0xFA → ⊥) → held (movedTo m x) a ≡ held m a
-  unfolding movedTo placed countsAt withPort
+  unfolding movedTo placed countsAt withReleased withPort
   put-other a n k =
-      held-other (placedIn (m .regs) 0xF1 tmr-put) 0xFA a (x .lines .irq) k ∙ held-other (m .regs) 0xF1 a tmr-put n
+      held-other (placedIn (m .regs) 0xF1 tmr-put) 0xFA a (x .lines .requests .irq) k ∙ held-other (m .regs) 0xF1 a tmr-put n
 
   -- what was put is seen
   pub put-seen : movingOf (movedTo m x) ≡ x
-  unfolding movingOf movedTo placed countsAt withPort
+  unfolding movingOf movedTo placed countsAt withReleased withPort
   put-seen =
       rw (put-tmr, put-irq, on0 (x .t0 .enabled) (x .t1 .enabled) _ tmr-byte, on1 (x .t0 .enabled) (x .t1 .enabled) _ tmr-byte)
 
   -- what the timers read stays
   pub put-setting : settingOf (controlOf (movedTo m x)) ≡ settingOf (controlOf m)
-  unfolding settingOf controlOf controlWith movedTo placed countsAt withPort
+  unfolding settingOf controlOf controlWith movedTo placed countsAt withReleased withPort
   put-setting =
       rw (
         put-tmr,
@@ -106,7 +106,7 @@ module _ (m : Machine) (long : length (m .regs) ≡ 256) (tmr-byte : held m 0xF1
 
   -- the last put counts
   pub put-again : (y : Moving) → movedTo (movedTo m x) y ≡ movedTo m y
-  unfolding movedTo placed countsAt withPort
+  unfolding movedTo placed countsAt withReleased withPort
   put-again y =
       rw (
         put-tmr,
@@ -116,13 +116,13 @@ module _ (m : Machine) (long : length (m .regs) ≡ 256) (tmr-byte : held m 0xF1
 
 -- what is seen, put back, is the machine itself
 pub put-own : (m : Machine) → held m 0xF1 < 256 → movedTo m (movingOf m) ≡ m
-unfolding movingOf movedTo placed countsAt withPort
+unfolding movingOf movedTo placed countsAt withReleased withPort
 put-own m h = rw (enabling-own _ h, place-own (m .regs) 0xF1, place-own (m .regs) 0xFA)
 
--- where the enable bits, IRQ and the serial port are as they were, the counts alone are put
+-- where the enable bits, the request register and the serial port are as they were, the counts alone are put
 counts-alone : (m : Machine) (x : Moving) → held m 0xF1 < 256 → x .t0 .enabled ≡ enable0 (held m 0xF1) → x .t1 .enabled ≡ enable1 (held m 0xF1)
-    → x .lines .irq ≡ held m 0xFA → x .lines .port ≡ m .port → movedTo m x ≡ countsAt m x
-unfolding movedTo placed countsAt withPort
+    → x .lines .requests ≡ movingOf m .lines .requests → x .lines .port ≡ m .port → movedTo m x ≡ countsAt m x
+unfolding movingOf movedTo placed countsAt withReleased withPort
 counts-alone m x h e0 e1 e p =
     rw (e0, e1, e, p, enabling-own _ h, place-own (m .regs) 0xF1, place-own (m .regs) 0xFA)
 

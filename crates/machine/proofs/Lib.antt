@@ -2,9 +2,11 @@ pub mod Choices
 pub mod Elements
 pub mod Places
 pub mod Sio
+pub mod Held
 pub mod Ranges
 pub mod Lens
 pub mod Whole
 pub mod Legal
 pub mod SerialSpan
+pub mod HeldSpan
 pub mod Theorems

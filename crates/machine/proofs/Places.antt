@@ -41,11 +41,11 @@ places-again l a b v w x y n =
     ∙ place-again (placedIn (placedIn l a v) a x) b w y
     ∙ ap (λ (k : List ℕ). placedIn k b y) (place-again l a v x)
 
--- what holds of every place and what it holds, and of what is placed, holds after
-pub each-placed : (P : ℕ → ℕ → Type 0) (l : List ℕ) (a v : ℕ) → length l ≡ 256 → a < 256 → P a v → ((b : ℕ) → P b (heldIn l b)) → (b : ℕ)
+-- what holds of every other place and what it holds, and of what is placed, holds after
+pub each-placed : (P : ℕ → ℕ → Type 0) (l : List ℕ) (a v : ℕ) → length l ≡ 256 → a < 256 → P a v → ((b : ℕ) → b ≢ a → P b (heldIn l b)) → (b : ℕ)
     → P b (heldIn (placedIn l a v) b)
 each-placed P l a v e h p all b = go (ℕ-discrete b a)
   where
     go : Dec (b ≡ a) → P b (heldIn (placedIn l a v) b)
     go (yes own) = rw (own, held-same l a v e h) p
-    go (no other) = rw (held-other l a b v other) (all b)
+    go (no other) = rw (held-other l a b v other) (all b other)

@@ -10,10 +10,11 @@ use Rattle.word.proofs.Computed.{by-test}
 use Rattle.timers.specs.Clock.{written}
 use Rattle.word.proofs.Iterate.{iter-keeps}
 use Rattle.serial.specs.declared.Mode.{Mode}
-use Rattle.machine.specs.State.{placedIn, whole, placed, withPort, withTransmitter}
+use Rattle.machine.specs.State.{placedIn, whole, placed, withReleased, withPort, withTransmitter}
 use Rattle.machine.specs.Clock.{movingOf, countsAt, movedTo, writeTmr, Ran, shown, cycleOf, spanOf}
 use Rattle.machine.specs.Serial.{writeSio}
 use Rattle.machine.proofs.Sio.{sio-either}
+use Rattle.machine.proofs.Held.{irq-either}
 use Rattle.machine.specs.Registers.{isHole, writePort, writeReg}
 use Rattle.machine.specs.Addresses.{evenOf, writePair}
 use Rattle.machine.specs.Memory.{listOf}
@@ -33,9 +34,10 @@ pub record Keeps (m n : Machine) : Type 0 where
   pub last3-kept : n .last3 ≡ m .last3
   pub kind-kept : n .kind ≡ m .kind
   pub cost-kept : n .cost ≡ m .cost
+  pub released-kept : n .released ≡ m .released
 
 pub itself : (m : Machine) → Keeps m m
-itself m = record { pc-kept = refl; divider-kept = refl; last3-kept = refl; kind-kept = refl; cost-kept = refl }
+itself m = record { pc-kept = refl; divider-kept = refl; last3-kept = refl; kind-kept = refl; cost-kept = refl; released-kept = refl }
 
 pub keeps-on : {m n o : Machine} → Keeps m n → Keeps n o → Keeps m o
 keeps-on f g =
@@ -45,20 +47,21 @@ keeps-on f g =
       last3-kept = g .last3-kept ∙ f .last3-kept;
       kind-kept = g .kind-kept ∙ f .kind-kept;
       cost-kept = g .cost-kept ∙ f .cost-kept;
+      released-kept = g .released-kept ∙ f .released-kept;
     }
 
 pub place-keeps : (m : Machine) (a v : ℕ) → Keeps m (placed m a v)
 unfolding placed
-place-keeps m a v = record { pc-kept = refl; divider-kept = refl; last3-kept = refl; kind-kept = refl; cost-kept = refl }
+place-keeps m a v = record { pc-kept = refl; divider-kept = refl; last3-kept = refl; kind-kept = refl; cost-kept = refl; released-kept = refl }
 
 tmr-keeps : (m : Machine) (v : ℕ) → Keeps m (writeTmr m v)
 unfolding writeTmr countsAt placed written movingOf
-tmr-keeps m v = record { pc-kept = refl; divider-kept = refl; last3-kept = refl; kind-kept = refl; cost-kept = refl }
+tmr-keeps m v = record { pc-kept = refl; divider-kept = refl; last3-kept = refl; kind-kept = refl; cost-kept = refl; released-kept = refl }
 
 sio-keeps : (m : Machine) (v : ℕ) → Keeps m (writeSio m v)
 unfolding withTransmitter withPort
 sio-keeps m v =
-    sio-either m v (Keeps m) (record { pc-kept = refl; divider-kept = refl; last3-kept = refl; kind-kept = refl; cost-kept = refl }) (itself m)
+    sio-either m v (Keeps m) (record { pc-kept = refl; divider-kept = refl; last3-kept = refl; kind-kept = refl; cost-kept = refl; released-kept = refl }) (itself m)
 
 pub write-keeps : (m : Machine) (a v : ℕ) → Keeps m (writeReg m a v)
 unfolding writeReg writePort
@@ -66,7 +69,7 @@ write-keeps m a v =
     by-test (Keeps m) (ltb a 0x04) (λ t. place-keeps m a _) (λ t.
     by-test (Keeps m) (isHole a) (λ u. by-test (Keeps m) (eqb a 0xF0) (λ e. sio-keeps m v) (λ e. itself m)) (λ u.
     by-test (Keeps m) (eqb a 0xF1) (λ e. tmr-keeps m v) (λ u.
-    by-test (Keeps m) (eqb a 0xFA) (λ e. place-keeps m a (v % 64)) (λ u.
+    by-test (Keeps m) (eqb a 0xFA) (λ e. irq-either m v (Keeps m) (λ released. place-keeps m 0xFA (v % 64)) (itself m)) (λ u.
     by-test (Keeps m) (eqb a 0xFD) (λ e. place-keeps m a (upper v * 16)) (λ u. place-keeps m a v)))))
 
 pub pair-keeps : (m : Machine) (a w : ℕ) → Keeps m (writePair m a w)
@@ -93,6 +96,6 @@ raise-keeps m n =
 
 -- cycles keep the last pins
 pub span-last3 : (n : ℕ) (m : Machine) → spanOf n m .machine .last3 ≡ m .last3
-unfolding spanOf cycleOf shown movedTo placed countsAt withPort
+unfolding spanOf cycleOf shown movedTo placed countsAt withReleased withPort
 span-last3 n m =
     iter-keeps cycleOf (λ (r : Ran). r .machine .last3 ≡ m .last3) (λ r e. e) n (record { machine = m; ends0 = 0; ends1 = 0 }) refl

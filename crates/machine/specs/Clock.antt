@@ -11,7 +11,7 @@ use Rattle.timers.specs.declared.Moving.{Moving}
 use Rattle.timers.specs.declared.Spanned.{Spanned}
 use Rattle.machine.specs.Names.{TMR, T1, PRE1, T0, PRE0, P3M, IRQ}
 use Rattle.word.specs.Choose.{bitsIf}
-use Rattle.machine.specs.State.{whole, coreOf, held, placed, withPort}
+use Rattle.machine.specs.State.{whole, coreOf, held, placed, withReleased, withPort}
 use Rattle.machine.specs.declared.Machine.{Machine}
 use Rattle.machine.specs.declared.Core.{Core}
 
@@ -23,14 +23,14 @@ controlWith m tmr =
 unfoldable pub controlOf : Machine → Control
 controlOf m = controlWith m (held m TMR)
 
--- what cycles move: the divider, the counts in progress with the enable bits that stand in TMR, IRQ, T_OUT, the serial port
+-- what cycles move: the divider, the counts in progress with the enable bits that stand in TMR, the request register, T_OUT, the serial port
 unfoldable pub movingOf : Machine → Moving
 movingOf m =
     record {
       divider = m .divider;
       t0 = record { timer = m .t0; enabled = enable0 (held m TMR) };
       t1 = record { timer = m .t1; enabled = enable1 (held m TMR) };
-      lines = record { irq = held m IRQ; tout = m .tout; port = m .port };
+      lines = record { requests = record { irq = held m IRQ; released = m .released }; tout = m .tout; port = m .port };
     }
 
 -- TMR with these enable bits, 1 for T0 and 3 for T1
@@ -49,6 +49,7 @@ countingAt k divider t0 t1 tout =
       tout = tout;
       kind = k .kind;
       cost = k .cost;
+      released = k .released;
       port = k .port;
     }
 
@@ -58,10 +59,13 @@ coreAt k x = countingAt k (x .divider) (x .t0 .timer) (x .t1 .timer) (x .lines .
 unfoldable pub countsAt : Machine → Moving → Machine
 countsAt m x = whole (m .regs) (coreAt (coreOf m) x)
 
--- the machine with all that cycles move as given: the counts, the serial port, the enable bits in TMR, and IRQ
+-- the machine with all that cycles move as given: the counts, the serial port, the enable bits in TMR, and the request register, which is IRQ and
+-- the mark of an EI. (No cycle and no edge changes the mark: `span-releases-none`, `compare-releases-none`.)
 unfoldable pub movedTo : Machine → Moving → Machine
 movedTo m x =
-    placed (placed (withPort (countsAt m x) (x .lines .port)) TMR (enabling (held m TMR) (x .t0 .enabled) (x .t1 .enabled))) IRQ (x .lines .irq)
+    let r = x .lines .requests in
+    let k = withReleased (withPort (countsAt m x) (x .lines .port)) (r .released) in
+    placed (placed k TMR (enabling (held m TMR) (x .t0 .enabled) (x .t1 .enabled))) IRQ (r .irq)
 
 -- a write to TMR: "Writing a load bit copies P and N, sets T_OUT to 1 if the byte written chooses that timer, and reads back 0. The
 -- divider isn't touched."

@@ -1,5 +1,5 @@
 -- Reset, and the new machine (01 "One step", "Numbers the encoder sees"; 004, table 8-1).
-use mathlib.Core.Bool.{Bool, true, _&&_, _||_}
+use mathlib.Core.Bool.{Bool, true, false, _&&_, _||_}
 use mathlib.Core.List.{List, [], _∷_}
 use Prim.Native.Nat.{ℕ}
 use lib.Dec.{eqb, leb}
@@ -44,7 +44,8 @@ fullTimer = record { prescaler = 64; counter = 256 }
 abbrev pub restingPort : Port
 restingPort = record { receiver = waiting 0; transmitter = idle }
 
--- "Reset: PC 000C, [the places above,] divider 0; [..] T_OUT 1, prescalers 64, counters saved as 0, last pins all ones."
+-- "Reset: PC 000C, [the places above,] divider 0; [..] T_OUT 1, prescalers 64, counters saved as 0, last pins all ones." And no EI has been
+-- executed since: "IRQ bits D_0-D_5 are held at 0 until an EI instruction is executed" (004, 10.8; 02, C-13).
 abbrev pub startedWith : List ℕ → ℕ → ℕ → Machine
 startedWith file kind cost =
     record {
@@ -57,6 +58,7 @@ startedWith file kind cost =
       tout = true;
       kind = kind;
       cost = cost;
+      released = false;
       port = restingPort;
     }
 

@@ -1,6 +1,8 @@
 -- The machine, and the places of its register file (01 "Numbers the encoder sees"). Of a `Machine`, `regs` is the register file, `pc` the program
--- counter, `divider` the divider, `t0` and `t1` the counts in progress, `last3` the last Port 3 pins, `tout` the T_OUT level, `kind` the type, 1 or 11, and
--- `cost` the interrupt entry cost. A `Core` is the same without the file; below it is called the machine's rest.
+-- counter, `divider` the divider, `t0` and `t1` the counts in progress, `last3` the last Port 3 pins, `tout` the T_OUT level, `kind` the type, 1 or 11,
+-- `cost` the interrupt entry cost, `released` whether an EI has been executed since the last reset (02, C-13), and `port` the serial port (02,
+-- C-11). A `Core` is the same without the file; below it is called the machine's rest.
+use mathlib.Core.Bool.{Bool}
 use mathlib.Core.List.{List}
 use Prim.Native.Nat.{ℕ}
 use lib.ListN.{getD, set}
@@ -31,6 +33,7 @@ whole file k =
       tout = k .tout;
       kind = k .kind;
       cost = k .cost;
+      released = k .released;
       port = k .port;
     }
 
@@ -45,6 +48,7 @@ coreOf m =
       tout = m .tout;
       kind = m .kind;
       cost = m .cost;
+      released = m .released;
       port = m .port;
     }
 
@@ -55,9 +59,9 @@ held m a = heldIn (m .regs) a
 unfoldable pub placed : Machine → ℕ → ℕ → Machine
 placed m a v = whole (placedIn (m .regs) a v) (coreOf m)
 
--- the rest of a machine with this program counter, these last pins and this serial port, and all else as it was
-abbrev pub coreWith : Core → ℕ → ℕ → Port → Core
-coreWith k pc last3 port =
+-- the rest of a machine with this program counter, these last pins, this mark of an EI and this serial port, and all else as it was
+abbrev pub coreWith : Core → ℕ → ℕ → Bool → Port → Core
+coreWith k pc last3 released port =
     record {
       pc = pc;
       divider = k .divider;
@@ -67,26 +71,34 @@ coreWith k pc last3 port =
       tout = k .tout;
       kind = k .kind;
       cost = k .cost;
+      released = released;
       port = port;
     }
 
 -- the rest of a machine, and a machine, at another program counter
 abbrev pub atPc : Core → ℕ → Core
-atPc k pc = coreWith k pc (k .last3) (k .port)
+atPc k pc = coreWith k pc (k .last3) (k .released) (k .port)
 
 unfoldable pub withPc : Machine → ℕ → Machine
 withPc m pc = whole (m .regs) (atPc (coreOf m) pc)
 
 -- the same with other last pins of Port 3
 abbrev pub atLast3 : Core → ℕ → Core
-atLast3 k port3 = coreWith k (k .pc) port3 (k .port)
+atLast3 k port3 = coreWith k (k .pc) port3 (k .released) (k .port)
 
 unfoldable pub withLast3 : Machine → ℕ → Machine
 withLast3 m port3 = whole (m .regs) (atLast3 (coreOf m) port3)
 
+-- with IRQ released, or held
+abbrev pub atReleased : Core → Bool → Core
+atReleased k released = coreWith k (k .pc) (k .last3) released (k .port)
+
+unfoldable pub withReleased : Machine → Bool → Machine
+withReleased m released = whole (m .regs) (atReleased (coreOf m) released)
+
 -- with another serial port
 abbrev pub atPort : Core → Port → Core
-atPort k port = coreWith k (k .pc) (k .last3) port
+atPort k port = coreWith k (k .pc) (k .last3) (k .released) port
 
 unfoldable pub withPort : Machine → Port → Machine
 withPort m port = whole (m .regs) (atPort (coreOf m) port)

@@ -13,7 +13,8 @@ use timers::Timer;
 pub type File = [u8; numbers::FILE_LENGTH];
 
 // 01's machine: the register file in address order, the program counter, the divider, both timers' counts in progress, the last Port 3
-// pins, the T_OUT level, the type (1 or 11) and the interrupt entry cost; and C-11's serial port.
+// pins, the T_OUT level, the type (1 or 11) and the interrupt entry cost; C-13's mark, whether an EI has been executed since the last
+// reset; and C-11's serial port.
 pub struct Machine {
     pub regs: File,
     pub pc: u16,
@@ -24,6 +25,7 @@ pub struct Machine {
     pub tout: bool,
     pub kind: u8,
     pub cost: u8,
+    pub released: bool,
     pub port: Port,
 }
 
@@ -37,6 +39,7 @@ pub struct Core {
     pub tout: bool,
     pub kind: u8,
     pub cost: u8,
+    pub released: bool,
     pub port: Port,
 }
 

@@ -79,6 +79,7 @@ fn started_with(file: File, kind: u8, cost: u8) -> Machine
         tout: true,
         kind,
         cost,
+        released: false,
         port,
     }
 }
