@@ -7,6 +7,7 @@ use timers::Control;
 use timers::Counting;
 use timers::Lines;
 use timers::Moving;
+use timers::RequestRegister;
 use timers::Timer;
 ghost use mathlib.Core.Path.{_≡_};
 ghost use Rattle.machine.specs.Clock.{controlWith, controlOf, movingOf, enabling, countsAt, movedTo, writeTmr, spanOf};
@@ -64,6 +65,7 @@ pub fn moving_of(regs: &File, rest: &Rest) -> Moving
 {
     let tmr = machine::file::held(regs, names::TMR);
     let irq = machine::file::held(regs, names::IRQ);
+    let released = lent::released(rest);
     let on0 = word::is_set(1, tmr);
     let on1 = word::is_set(3, tmr);
     let divider = lent::divider(rest);
@@ -79,7 +81,12 @@ pub fn moving_of(regs: &File, rest: &Rest) -> Moving
         timer: timer1,
         enabled: on1,
     };
-    let lines = Lines { irq, tout, port };
+    let requests = RequestRegister { irq, released };
+    let lines = Lines {
+        requests,
+        tout,
+        port,
+    };
     Moving {
         divider,
         t0,
@@ -117,13 +124,15 @@ pub fn move_to(regs: &mut File, rest: &mut Rest, x: Moving)
     let counting0 = x.t0;
     let counting1 = x.t1;
     let lines = x.lines;
+    let requests = lines.requests;
     let port = lines.port;
     let tmr = machine::file::held(regs, names::TMR);
     let enabled = enabling(tmr, counting0.enabled, counting1.enabled);
     put(regs, rest, x);
     lent::set_port(regs, rest, port);
+    lent::set_released(regs, rest, requests.released);
     machine::file::place(regs, names::TMR, enabled);
-    machine::file::place(regs, names::IRQ, lines.irq);
+    machine::file::place(regs, names::IRQ, requests.irq);
 }
 
 // A write to TMR.

@@ -12,7 +12,7 @@ use Rattle.timers.specs.declared.Timer.{Timer}
 use Rattle.serial.specs.declared.Receiver.{Receiver}
 use Rattle.serial.specs.declared.Transmitter.{Transmitter}
 use Rattle.serial.specs.declared.Port.{Port}
-use Rattle.machine.specs.State.{coreOf, atPc, atLast3, atPort}
+use Rattle.machine.specs.State.{coreOf, atPc, atLast3, atReleased, atPort}
 use Rattle.machine.specs.Clock.{countingAt}
 use Rattle.machine.specs.declared.Machine.{Machine}
 use Rattle.lent.specs.View.{receiverNumber, receiverIn, transmitterNumber, transmitterIn, coreIn}
@@ -74,17 +74,17 @@ pub lent-seen : (m : Machine) → m .pc < 65536 → m .last3 < 256 → m .kind <
     → PortBytes (m .port)
     → coreIn
     (m .pc ∷ m .divider ∷ m .t0 .prescaler ∷ m .t0 .counter ∷ m .t1 .prescaler ∷ m .t1 .counter ∷ pick (m .tout) 1 0 ∷ m .last3 ∷ m .kind ∷ m .cost
-    ∷ receiverNumber (m .port .receiver) ∷ transmitterNumber (m .port .transmitter) ∷ [])
+    ∷ pick (m .released) 1 0 ∷ receiverNumber (m .port .receiver) ∷ transmitterNumber (m .port .transmitter) ∷ [])
     ≡ coreOf m
 unfolding coreIn
 lent-seen m p s t c b =
-    rw (mod-eq-of-lt p, mod-eq-of-lt s, mod-eq-of-lt t, mod-eq-of-lt c, level (m .tout), port-back (m .port) b)
+    rw (mod-eq-of-lt p, mod-eq-of-lt s, mod-eq-of-lt t, mod-eq-of-lt c, level (m .tout), level (m .released), port-back (m .port) b)
 
 -- the places apart
 data Places : List ℕ → Type 0 where
-  places : (a b c d e f g h i j k l : ℕ) → Places (a ∷ b ∷ c ∷ d ∷ e ∷ f ∷ g ∷ h ∷ i ∷ j ∷ k ∷ l ∷ [])
+  places : (a b c d e f g h i j k l m : ℕ) → Places (a ∷ b ∷ c ∷ d ∷ e ∷ f ∷ g ∷ h ∷ i ∷ j ∷ k ∷ l ∷ m ∷ [])
 
-apart : (r : List ℕ) → length r ≡ 12 → Places r
+apart : (r : List ℕ) → length r ≡ 13 → Places r
 apart [] sized = absurd (omega arith)
 apart (a ∷ []) sized = absurd (omega arith)
 apart (a ∷ b ∷ []) sized = absurd (omega arith)
@@ -97,22 +97,23 @@ apart (a ∷ b ∷ c ∷ d ∷ e ∷ f ∷ g ∷ h ∷ []) sized = absurd (omega
 apart (a ∷ b ∷ c ∷ d ∷ e ∷ f ∷ g ∷ h ∷ i ∷ []) sized = absurd (omega arith)
 apart (a ∷ b ∷ c ∷ d ∷ e ∷ f ∷ g ∷ h ∷ i ∷ j ∷ []) sized = absurd (omega arith)
 apart (a ∷ b ∷ c ∷ d ∷ e ∷ f ∷ g ∷ h ∷ i ∷ j ∷ k ∷ []) sized = absurd (omega arith)
-apart (a ∷ b ∷ c ∷ d ∷ e ∷ f ∷ g ∷ h ∷ i ∷ j ∷ k ∷ l ∷ []) sized = places a b c d e f g h i j k l
-apart (a ∷ b ∷ c ∷ d ∷ e ∷ f ∷ g ∷ h ∷ i ∷ j ∷ k ∷ l ∷ m ∷ ms) sized = absurd (omega arith)
+apart (a ∷ b ∷ c ∷ d ∷ e ∷ f ∷ g ∷ h ∷ i ∷ j ∷ k ∷ l ∷ []) sized = absurd (omega arith)
+apart (a ∷ b ∷ c ∷ d ∷ e ∷ f ∷ g ∷ h ∷ i ∷ j ∷ k ∷ l ∷ m ∷ []) sized = places a b c d e f g h i j k l m
+apart (a ∷ b ∷ c ∷ d ∷ e ∷ f ∷ g ∷ h ∷ i ∷ j ∷ k ∷ l ∷ m ∷ n ∷ ns) sized = absurd (omega arith)
 
 module _ (v : ℕ) where
   pc-there : {r : List ℕ} → v < 65536 → Places r → coreIn (set r 0 v) ≡ atPc (coreIn r) v
   unfolding coreIn
-  pc-there u (places a b c d e f g h i j k l) = rw (mod-eq-of-lt u)
+  pc-there u (places a b c d e f g h i j k l m) = rw (mod-eq-of-lt u)
 
   last3-there : {r : List ℕ} → v < 256 → Places r → coreIn (set r 7 v) ≡ atLast3 (coreIn r) v
   unfolding coreIn
-  last3-there u (places a b c d e f g h i j k l) = rw (mod-eq-of-lt u)
+  last3-there u (places a b c d e f g h i j k l m) = rw (mod-eq-of-lt u)
 
-  pub pc-set : (r : List ℕ) → length r ≡ 12 → v < 65536 → coreIn (set r 0 v) ≡ atPc (coreIn r) v
+  pub pc-set : (r : List ℕ) → length r ≡ 13 → v < 65536 → coreIn (set r 0 v) ≡ atPc (coreIn r) v
   pc-set r n u = pc-there u (apart r n)
 
-  pub last3-set : (r : List ℕ) → length r ≡ 12 → v < 256 → coreIn (set r 7 v) ≡ atLast3 (coreIn r) v
+  pub last3-set : (r : List ℕ) → length r ≡ 13 → v < 256 → coreIn (set r 7 v) ≡ atLast3 (coreIn r) v
   last3-set r n u = last3-there u (apart r n)
 
 module _ (divider : ℕ) (t0 t1 : Timer) where
@@ -122,39 +123,47 @@ module _ (divider : ℕ) (t0 t1 : Timer) where
 
   counts-there : {r : List ℕ} → Places r → coreIn (counted r) ≡ countingAt (coreIn r) divider t0 t1 (coreIn r .tout)
   unfolding coreIn
-  counts-there (places a b c d e f g h i j k l) = refl
+  counts-there (places a b c d e f g h i j k l m) = refl
 
-  pub counts-set : (r : List ℕ) → length r ≡ 12 → coreIn (counted r) ≡ countingAt (coreIn r) divider t0 t1 (coreIn r .tout)
+  pub counts-set : (r : List ℕ) → length r ≡ 13 → coreIn (counted r) ≡ countingAt (coreIn r) divider t0 t1 (coreIn r .tout)
   counts-set r n = counts-there (apart r n)
 
 tout-there : (level-put : Bool) {r : List ℕ} → Places r
     → coreIn (set r 6 (pick level-put 1 0)) ≡ countingAt (coreIn r) (coreIn r .divider) (coreIn r .t0) (coreIn r .t1) level-put
 unfolding coreIn
-tout-there level-put (places a b c d e f g h i j k l) = rw (level level-put)
+tout-there level-put (places a b c d e f g h i j k l m) = rw (level level-put)
 
-pub tout-set : (tout : Bool) (r : List ℕ) → length r ≡ 12
+pub tout-set : (tout : Bool) (r : List ℕ) → length r ≡ 13
     → coreIn (set r 6 (pick tout 1 0)) ≡ countingAt (coreIn r) (coreIn r .divider) (coreIn r .t0) (coreIn r .t1) tout
 tout-set tout r n = tout-there tout (apart r n)
+
+-- IRQ released, or held
+released-there : (mark : Bool) {r : List ℕ} → Places r → coreIn (set r 10 (pick mark 1 0)) ≡ atReleased (coreIn r) mark
+unfolding coreIn
+released-there mark (places a b c d e f g h i j k l m) = rw (level mark)
+
+pub released-set : (b : Bool) (r : List ℕ) → length r ≡ 13 → coreIn (set r 10 (pick b 1 0)) ≡ atReleased (coreIn r) b
+released-set b r n = released-there b (apart r n)
 
 -- the serial port put, and its transmitter alone
 module _ (p : Port) (bytes : PortBytes p) where
   abbrev pub ported : List ℕ → List ℕ
-  ported r = set (set r 10 (receiverNumber (p .receiver))) 11 (transmitterNumber (p .transmitter))
+  ported r = set (set r 11 (receiverNumber (p .receiver))) 12 (transmitterNumber (p .transmitter))
 
   port-there : {r : List ℕ} → Places r → coreIn (ported r) ≡ atPort (coreIn r) p
   unfolding coreIn
-  port-there (places a b c d e f g h i j k l) = ap (atPort (coreIn (a ∷ b ∷ c ∷ d ∷ e ∷ f ∷ g ∷ h ∷ i ∷ j ∷ k ∷ l ∷ []))) (port-back p bytes)
+  port-there (places a b c d e f g h i j k l m) = ap (atPort (coreIn (a ∷ b ∷ c ∷ d ∷ e ∷ f ∷ g ∷ h ∷ i ∷ j ∷ k ∷ l ∷ m ∷ []))) (port-back p bytes)
 
-  pub port-set : (r : List ℕ) → length r ≡ 12 → coreIn (ported r) ≡ atPort (coreIn r) p
+  pub port-set : (r : List ℕ) → length r ≡ 13 → coreIn (ported r) ≡ atPort (coreIn r) p
   port-set r n = port-there (apart r n)
 
 module _ (t : Transmitter) (bits : t .bits < 256) (place : t .place < 256) (ends : t .ends < 256) where
   abbrev sending : List ℕ → Port
   sending r = record { receiver = coreIn r .port .receiver; transmitter = t }
 
-  transmitter-there : {r : List ℕ} → Places r → coreIn (set r 11 (transmitterNumber t)) ≡ atPort (coreIn r) (sending r)
+  transmitter-there : {r : List ℕ} → Places r → coreIn (set r 12 (transmitterNumber t)) ≡ atPort (coreIn r) (sending r)
   unfolding coreIn
-  transmitter-there (places a b c d e f g h i j k l) = rw (transmitter-back t bits place ends)
+  transmitter-there (places a b c d e f g h i j k l m) = rw (transmitter-back t bits place ends)
 
-  pub transmitter-set : (r : List ℕ) → length r ≡ 12 → coreIn (set r 11 (transmitterNumber t)) ≡ atPort (coreIn r) (sending r)
+  pub transmitter-set : (r : List ℕ) → length r ≡ 13 → coreIn (set r 12 (transmitterNumber t)) ≡ atPort (coreIn r) (sending r)
   transmitter-set r n = transmitter-there (apart r n)

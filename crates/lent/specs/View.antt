@@ -42,7 +42,8 @@ coreIn rest =
       tout = eqb (getD rest 6 0) 1;
       kind = getD rest 8 0 % 256;
       cost = getD rest 9 0 % 256;
-      port = record { receiver = receiverIn (getD rest 10 0); transmitter = transmitterIn (getD rest 11 0) };
+      released = eqb (getD rest 10 0) 1;
+      port = record { receiver = receiverIn (getD rest 11 0); transmitter = transmitterIn (getD rest 12 0) };
     }
 
 -- the machine of a lent file and a lent rest

@@ -12,12 +12,12 @@ use timers::Timer;
 ghost use mathlib.Core.Path.{_≡_};
 ghost use Prim.Native.Nat.{_<_};
 ghost use lib.ListN.{length};
-ghost use Rattle.machine.specs.State.{withPc, withLast3, withPort, withTransmitter, coreOf};
+ghost use Rattle.machine.specs.State.{withPc, withLast3, withReleased, withPort, withTransmitter, coreOf};
 ghost use Rattle.machine.specs.Clock.{countingAt};
 ghost use Rattle.lent.specs.View.{timerIn, receiverNumber, receiverIn, transmitterNumber, transmitterIn, coreIn, machineIn};
 
 // All of a machine but its register file, by place.
-pub type Rest = [u32; 12];
+pub type Rest = [u32; 13];
 
 const PC: usize = 0;
 
@@ -35,19 +35,22 @@ const KIND: usize = 8;
 
 const COST: usize = 9;
 
+// 1 where an EI has been executed since the last reset.
+const RELEASED: usize = 10;
+
 // The halves of the serial port, a number each, its bytes in the saved machine's order from the lowest up: where nothing ends they lie
 // still, and where they move it is one load and one store.
-const RECEIVER: usize = 10;
+const RECEIVER: usize = 11;
 
-const TRANSMITTER: usize = 11;
+const TRANSMITTER: usize = 12;
 
 fn sized(rest: Rest)
-    ensures { λ _. ⌜ length rest ≡ 12 ⌝ }
+    ensures { λ _. ⌜ length rest ≡ 13 ⌝ }
 {}
 
 // How many places there are, for the proofs of what stores to one. It compiles to nothing.
 fn long(rest: &Rest)
-    ensures { λ _. ⌜ length (now (rest .entry)) ≡ 12 ⌝ }
+    ensures { λ _. ⌜ length (now (rest .entry)) ≡ 13 ⌝ }
 {
     let all = *rest;
     sized(all);
@@ -63,6 +66,7 @@ pub fn lend(m: Machine) -> Rest
     let receiver = receiver_number(port.receiver);
     let transmitter = transmitter_number(port.transmitter);
     let tout = word::bits_if(m.tout, 1);
+    let released = word::bits_if(m.released, 1);
     [
         m.pc as u32,
         m.divider,
@@ -74,6 +78,7 @@ pub fn lend(m: Machine) -> Rest
         m.last3 as u32,
         m.kind as u32,
         m.cost as u32,
+        released as u32,
         receiver,
         transmitter,
     ]
@@ -91,6 +96,7 @@ pub fn machine_of(regs: File, rest: &Rest) -> Machine
     let tout = tout(rest);
     let kind = kind(rest);
     let cost = cost(rest);
+    let released = released(rest);
     let port = port(rest);
     Machine {
         regs,
@@ -102,6 +108,7 @@ pub fn machine_of(regs: File, rest: &Rest) -> Machine
         tout,
         kind,
         cost,
+        released,
         port,
     }
 }
@@ -208,6 +215,22 @@ pub fn cost(rest: &Rest) -> u8
     ensures { λ r. ⌜ r ≡ coreIn (now (rest .entry)) .cost ⌝ }
 {
     (rest[COST] % 256) as u8
+}
+
+// Whether IRQ is released: an EI has been executed since the last reset.
+pub fn released(rest: &Rest) -> bool
+    ensures { λ r. ⌜ r ≡ coreIn (now (rest .entry)) .released ⌝ }
+{
+    rest[RELEASED] == 1
+}
+
+// The machine with IRQ released, or held.
+pub fn set_released(regs: &File, rest: &mut Rest, released: bool)
+    ensures { λ _. ⌜ machineIn (now (regs .entry)) (now (rest .exit)) ≡ withReleased (machineIn (now (regs .entry)) (now (rest .entry))) released ⌝ }
+{
+    long(rest);
+    let mark = word::bits_if(released, 1);
+    rest[RELEASED] = mark as u32;
 }
 
 // The receiver as one number, and the transmitter.

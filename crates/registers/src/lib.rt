@@ -10,7 +10,7 @@ use timers::Timer;
 ghost use mathlib.Core.Path.{_≡_};
 ghost use Rattle.word.specs.Fields.{lowByte};
 ghost use Rattle.machine.specs.Serial.{readSio, writeSio};
-ghost use Rattle.machine.specs.Registers.{readPort, writePort, readHole, writeHole, readReg, writeReg};
+ghost use Rattle.machine.specs.Registers.{readPort, writePort, readHole, writeHole, writeIrq, readReg, writeReg};
 ghost use Rattle.machine.specs.ForCode.{isGeneral};
 ghost use Rattle.lent.specs.View.{machineIn};
 
@@ -78,6 +78,16 @@ fn write_hole(regs: &File, rest: &mut Rest, a: u8, v: u8)
     }
 }
 
+// A store to FA, which is dropped until an EI has been executed.
+fn write_irq(regs: &mut File, rest: &Rest, v: u8)
+    ensures { λ _. ⌜ machineIn (now (regs .exit)) (now (rest .entry)) ≡ writeIrq (machineIn (now (regs .entry)) (now (rest .entry))) v ⌝ }
+{
+    let released = lent::released(rest);
+    if released {
+        machine::file::place(regs, names::IRQ, v % 64);
+    }
+}
+
 // R4 to R127: what a program uses most is looked at first.
 fn is_general(a: u8) -> bool
     ensures { λ r. ⌜ r ≡ isGeneral a ⌝ }
@@ -134,7 +144,7 @@ pub fn write_any(regs: &mut File, rest: &mut Rest, a: u8, v: u8)
             clock::write_tmr(regs, rest, v);
         }
         names::IRQ => {
-            machine::file::place(regs, a, v % 64);
+            write_irq(regs, rest, v);
         }
         names::RP => {
             machine::file::place(regs, a, v / 16 * 16);

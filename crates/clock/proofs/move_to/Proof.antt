@@ -19,6 +19,9 @@ put-requires c κs = search needs
 set-port-requires : tie.Need-set-port-requires
 set-port-requires c κs = search needs
 
+set-released-requires : tie.Need-set-released-requires
+set-released-requires c κs = search needs
+
 place-requires : tie.Need-place-requires
 place-requires c κs = search needs
 
@@ -29,16 +32,18 @@ returns : tie.Need-returns
 unfolding movedTo
 returns c =
     let enable : tie.After-place = c .before .before in
-    let ported : tie.After-set-port = enable .before .before in
+    let released : tie.After-set-released = enable .before .before in
+    let ported : tie.After-set-port = released .before .before .before in
     let counted : tie.After-put = ported .before .before .before in
     let enabling : tie.After-enabling = counted .before .before .before in
     let read : tie.After-held = enabling .before in
-    let begun : tie.Start = read .before .before .before .before .before .before in
-    let x = begun .args .x in
+    let begun : tie.Start = read .before .before .before .before .before .before .before in
+    let r = begun .args .x .lines .requests in
     let port-put = rw (counted .put .ensures) at (ported .set-port .ensures) in
-    let enable-put = placed-is TMR (enabling .enabling .result) port-put in
-    let requests-put = placed-is IRQ (x .lines .irq) enable-put in
-    let requests-stored : c .place2 .last .0 ≡ placedIn _ IRQ (x .lines .irq) = c .place2 .ensures in
+    let mark-put = rw port-put at (released .set-released .ensures) in
+    let enable-put = placed-is TMR (enabling .enabling .result) mark-put in
+    let requests-put = placed-is IRQ (r .irq) enable-put in
+    let requests-stored : c .place2 .last .0 ≡ placedIn _ IRQ (r .irq) = c .place2 .ensures in
     rw (requests-stored, enable .place .ensures, requests-put, enabling .enabling .ensures, read .held .ensures)
 
 pub move-to-spec : {M : Type 1} → statement M
@@ -49,6 +54,7 @@ move-to-spec =
     enabling-requires
     put-requires
     set-port-requires
+    set-released-requires
     place-requires
     place-requires-2
     returns)

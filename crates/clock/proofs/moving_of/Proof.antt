@@ -9,6 +9,9 @@ held-requires c κs = search needs
 held-requires-2 : tie.Need-held-requires-2
 held-requires-2 c κs = search needs
 
+released-requires : tie.Need-released-requires
+released-requires c κs = search needs
+
 is-set-requires : tie.Need-is-set-requires
 is-set-requires c κs = search needs
 
@@ -37,9 +40,10 @@ returns c =
     let divider-read = c .before .before .before .before .divider .ensures in
     let enable1 = c .before .before .before .before .before .is-set2 .ensures in
     let enable0 = c .before .before .before .before .before .before .is-set .ensures in
-    let irq = c .before .before .before .before .before .before .before .held2 .ensures in
-    let tmr = c .before .before .before .before .before .before .before .before .held .ensures in
-    simp (c .port .ensures, c .before .tout .ensures, c .before .before .t1 .ensures, count0, divider-read, enable1, enable0, irq, tmr)
+    let mark : tie.After-released = c .before .before .before .before .before .before .before in
+    let irq = mark .before .held2 .ensures in
+    let tmr = mark .before .before .held .ensures in
+    simp (c .port .ensures, c .before .tout .ensures, c .before .before .t1 .ensures, count0, divider-read, enable1, enable0, mark .released .ensures, irq, tmr)
 
 pub moving-of-spec : {M : Type 1} → statement M
 moving-of-spec =
@@ -47,6 +51,7 @@ moving-of-spec =
     (tie.spec
     held-requires
     held-requires-2
+    released-requires
     is-set-requires
     is-set-requires-2
     divider-requires

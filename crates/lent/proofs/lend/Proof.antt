@@ -20,8 +20,8 @@ transmitter-number-requires c κs = search needs
 bits-if-requires : tie.Need-bits-if-requires
 bits-if-requires c κs = search needs
 
-cast-t8 : tie.Need-cast-t8
-cast-t8 c = search needs
+bits-if-requires-2 : tie.Need-bits-if-requires-2
+bits-if-requires-2 c κs = search needs
 
 cast-t9 : tie.Need-cast-t9
 cast-t9 c = search needs
@@ -35,14 +35,21 @@ cast-t11 c = search needs
 cast-t12 : tie.Need-cast-t12
 cast-t12 c = search needs
 
+cast-t13 : tie.Need-cast-t13
+cast-t13 c = search needs
+
+cast-t14 : tie.Need-cast-t14
+cast-t14 c = search needs
+
 returns : tie.Need-returns
 returns c =
-    let level : tie.After-bits-if = c .before .before .before .before in
+    let mark : tie.After-bits-if2 = c .before .before .before .before in
+    let level : tie.After-bits-if = mark .before in
     let sent : tie.After-transmitter-number = level .before in
     let heard : tie.After-receiver-number = sent .before in
     let begun : tie.Start = heard .before .before .before .before in
     let typed = fits begun in
-    rw (level .bits-if .ensures .0, sent .transmitter-number .ensures, heard .receiver-number .ensures)
+    rw (mark .bits-if2 .ensures .0, level .bits-if .ensures .0, sent .transmitter-number .ensures, heard .receiver-number .ensures)
     (lent-seen (begun .args .m) (typed .0) (typed .1) (typed .2) (typed .3) (port-fits begun))
 
 pub lend-spec : {M : Type 1} → statement M
@@ -52,9 +59,11 @@ lend-spec =
     receiver-number-requires
     transmitter-number-requires
     bits-if-requires
-    cast-t8
+    bits-if-requires-2
     cast-t9
     cast-t10
     cast-t11
     cast-t12
+    cast-t13
+    cast-t14
     returns)

@@ -26,18 +26,23 @@ kind-requires c κs = search needs
 cost-requires : tie.Need-cost-requires
 cost-requires c κs = search needs
 
+released-requires : tie.Need-released-requires
+released-requires c κs = search needs
+
 port-requires : tie.Need-port-requires
 port-requires c κs = search needs
 
 returns : tie.Need-returns
 returns c =
-    let t-out = c .before .before .before .tout .ensures in
-    let last-pins = c .before .before .before .before .last3 .ensures in
-    let count1 = c .before .before .before .before .before .t1 .ensures in
-    let count0 = c .before .before .before .before .before .before .t0 .ensures in
-    let divider-read = c .before .before .before .before .before .before .before .divider .ensures in
-    let pc-read = c .before .before .before .before .before .before .before .before .pc .ensures in
-    simp (c .port .ensures, c .before .cost .ensures, c .before .before .kind .ensures, t-out, last-pins, count1, count0, divider-read, pc-read)
+    let cost-read : tie.After-cost = c .before .before in
+    let type-read : tie.After-kind = cost-read .before in
+    let t-out = type-read .before .tout .ensures in
+    let last-pins = type-read .before .before .last3 .ensures in
+    let count1 = type-read .before .before .before .t1 .ensures in
+    let count0 = type-read .before .before .before .before .t0 .ensures in
+    let divider-read = type-read .before .before .before .before .before .divider .ensures in
+    let pc-read = type-read .before .before .before .before .before .before .pc .ensures in
+    simp (c .port .ensures, c .before .released .ensures, cost-read .cost .ensures, type-read .kind .ensures, t-out, last-pins, count1, count0, divider-read, pc-read)
 
 pub machine-of-spec : {M : Type 1} → statement M
 machine-of-spec =
@@ -51,5 +56,6 @@ machine-of-spec =
     tout-requires
     kind-requires
     cost-requires
+    released-requires
     port-requires
     returns)

@@ -25,14 +25,14 @@ control m a v h n1 na nd =
 write-tmr-requires : tie.Need-write-tmr-requires
 write-tmr-requires c κs = search needs
 
-place-requires : tie.Need-place-requires
-place-requires c κs = search needs
+write-irq-requires : tie.Need-write-irq-requires
+write-irq-requires c κs = search needs
 
 mul-place : tie.Need-mul-place
 mul-place c = search needs
 
-place-requires-2 : tie.Need-place-requires-2
-place-requires-2 c κs = search needs
+place-requires : tie.Need-place-requires
+place-requires c κs = search needs
 
 write-port-requires : tie.Need-write-port-requires
 write-port-requires c κs = search needs
@@ -40,20 +40,20 @@ write-port-requires c κs = search needs
 write-hole-requires : tie.Need-write-hole-requires
 write-hole-requires c κs = search needs
 
-place-requires-3 : tie.Need-place-requires-3
-place-requires-3 c κs = search needs
+place-requires-2 : tie.Need-place-requires-2
+place-requires-2 c κs = search needs
 
 returns : tie.Need-returns
 unfolding writeReg
 returns c = c .write-tmr .ensures ∙ rw (c .before .before .before .match .keys1)
 
 returns-2 : tie.Need-returns-2
-unfolding writeReg placed
-returns-2 c = rw (c .place .ensures, c .before .before .match .keys2)
+unfolding writeReg
+returns-2 c = c .write-irq .ensures ∙ rw (c .before .before .before .match .keys2)
 
 returns-3 : tie.Need-returns-3
 unfolding writeReg placed
-returns-3 c = rw (c .place2 .ensures, c .before .before .match .keys3)
+returns-3 c = rw (c .place .ensures, c .before .before .match .keys3)
 
 returns-4 : tie.Need-returns-4
 returns-4 c = c .write-port .ensures ∙ port _ _ _ (omega arith)
@@ -63,19 +63,19 @@ returns-5 c = c .write-hole .ensures ∙ hole-stores _ _ _ (omega arith) (omega 
 
 returns-6 : tie.Need-returns-6
 unfolding placed
-returns-6 c = let r = c .before .before .before .before .match .rest in rw (c .place3 .ensures) (⊎-elim (λ w. general-stores _ _ _ (omega arith) (w .taken)) (λ w. control _ _ _ (w .1 .left) (r .0 .0 .1) (r .0 .1) (r .1)) (c .before .before .if2 .came))
+returns-6 c = let r = c .before .before .before .before .match .rest in rw (c .place2 .ensures) (⊎-elim (λ w. general-stores _ _ _ (omega arith) (w .taken)) (λ w. control _ _ _ (w .1 .left) (r .0 .0 .1) (r .0 .1) (r .1)) (c .before .before .if2 .came))
 
 pub write-any-spec : {M : Type 1} → statement M
 write-any-spec =
     tie.close
     (tie.spec
     write-tmr-requires
-    place-requires
+    write-irq-requires
     mul-place
-    place-requires-2
+    place-requires
     write-port-requires
     write-hole-requires
-    place-requires-3
+    place-requires-2
     returns
     returns-2
     returns-3
