@@ -66,7 +66,8 @@ FitDeed (deed.Return a) = a < 65536
 FitDeed (deed.ReturnFromInterrupt f a) = (f < 256) × (a < 65536)
 FitDeed (deed.Jump taken a) = a < 65536
 FitDeed (deed.Loop r v taken a) = (r < 256) × (v < 256) × (a < 65536)
-FitDeed (deed.Interrupts on) = Unit {0}
+FitDeed deed.EnableInterrupts = Unit {0}
+FitDeed deed.DisableInterrupts = Unit {0}
 
 -- an instruction's bytes are bytes
 pub record ByteCode (i : Code) : Type 0 where

@@ -95,12 +95,12 @@ pairedDeed p m d w i =
     let dst = oneAt p m w i in
     deed.StoreWord dst (pairedOf d (readPair p m dst))
 
--- DI, EI: IMR (7) <-- 0, IMR (7) <-- 1
+-- DI, "Disable Interrupts", and EI, "Enable Interrupts"
 abbrev pub diDeed : Deed
-diDeed = deed.Interrupts false
+diDeed = deed.DisableInterrupts
 
 abbrev pub eiDeed : Deed
-eiDeed = deed.Interrupts true
+eiDeed = deed.EnableInterrupts
 
 -- "A displacement is -128 to 127 from the next instruction"
 abbrev pub relative : Machine → ℕ → ℕ
@@ -232,4 +232,5 @@ outcomeOf m (deed.Return a) = true
 outcomeOf m (deed.ReturnFromInterrupt flags a) = true
 outcomeOf m (deed.Jump taken a) = taken
 outcomeOf m (deed.Loop r v taken a) = taken
-outcomeOf m (deed.Interrupts on) = true
+outcomeOf m deed.EnableInterrupts = true
+outcomeOf m deed.DisableInterrupts = true

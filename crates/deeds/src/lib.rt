@@ -48,6 +48,7 @@ pub enum Deed {
     Jump(bool, u16),
     // to the register at an address, its byte less one; whether the jump is taken, and where to
     Loop(u8, u8, bool, u16),
-    // bit 7 of IMR
-    Interrupts(bool),
+    // bit 7 of IMR set, and IRQ released; bit 7 of IMR cleared
+    EnableInterrupts,
+    DisableInterrupts,
 }

@@ -28,7 +28,7 @@ use Rattle.machine.specs.declared.Bytes.{Bytes}
 use Rattle.machine.specs.declared.Bytes.the-variants.{One, Two}
 use Rattle.machine.specs.declared.Stores.{Stores}
 use Rattle.machine.specs.declared.Stores.the-variants.{Nothing, At}
-use Rattle.machine.proofs.Legal.{LegalPins, AllBytes, placed-legal, write-legal, pair-legal, pushed-legal, raised-legal, pc-legal, program-byte}
+use Rattle.machine.proofs.Legal.{LegalPins, AllBytes, placed-legal, write-legal, pair-legal, pushed-legal, raised-legal, pc-legal, released-legal, program-byte}
 use Rattle.deeds.specs.Modes.{flagsOf}
 use Rattle.deeds.specs.Pages.{deedOf}
 use Rattle.deeds.specs.declared.Code.{Code}
@@ -37,7 +37,7 @@ use Rattle.deeds.specs.declared.Transfer.the-variants.{Dropped, ToRegister, ToM
 use Rattle.deeds.specs.declared.Deed.{Deed}
 use Rattle.deeds.specs.declared.Deed.the-variants as deed
 use Rattle.deeds.proofs.Fits.{FitTransfer, FitDeed, ByteCode, AllRead, deed-fits}
-use Rattle.execute.specs.Doing.{flagged, storedAt, wordStoredAt, transferred, countedUp, pairCountedUp, blockMoved, popped, returned, interruptsTo, interruptReturned, called, jumped, looped, doneOf}
+use Rattle.execute.specs.Doing.{flagged, storedAt, wordStoredAt, transferred, countedUp, pairCountedUp, blockMoved, popped, returned, interruptsTo, interruptReturned, interruptsEnabled, called, jumped, looped, doneOf}
 use Rattle.execute.specs.Execute.{Execution, codeAt, performOf, executeAs, executeOf}
 
 -- FLAGS and IMR may hold any byte
@@ -81,7 +81,7 @@ jumped-legal taken to l h = by-test Legal taken (λ t. pc-legal to l h) (λ t. l
 
 -- a deed done
 pub done-legal : (p : Pins) (m : Machine) (d : Deed) → Legal m → FitDeed d → Legal (doneOf p m d .machine)
-unfolding doneOf storedAt wordStoredAt blockMoved popped returned interruptReturned called looped
+unfolding doneOf storedAt wordStoredAt blockMoved popped returned interruptReturned interruptsEnabled called looped
 done-legal p m deed.Nothing l f = l
 done-legal p m (deed.Move t) l f = transfer-legal t l f
 done-legal p m (deed.Store dst o) l f = flagged-legal (o .flags) (write-legal l dst (o .value) (f .0) (f .1 .0)) (f .1 .1)
@@ -96,7 +96,8 @@ done-legal p m (deed.Return a) l f = pc-legal a (raised-legal 2 l) f
 done-legal p m (deed.ReturnFromInterrupt flags a) l f = interrupts-legal true (pc-legal a (any-may flags (raised-legal 3 l) (f .0)) (f .1))
 done-legal p m (deed.Jump taken a) l f = jumped-legal taken a l f
 done-legal p m (deed.Loop r v taken a) l f = jumped-legal taken a (write-legal l r v (f .0) (f .1)) (f .2)
-done-legal p m (deed.Interrupts on) l f = interrupts-legal on l
+done-legal p m deed.EnableInterrupts l f = released-legal (interrupts-legal true l)
+done-legal p m deed.DisableInterrupts l f = interrupts-legal false l
 
 -- what is to be stored in data memory
 abbrev pub FitStores : Stores → Type 0
@@ -128,7 +129,8 @@ done-fits p m (deed.Return a) l f = tt
 done-fits p m (deed.ReturnFromInterrupt flags a) l f = tt
 done-fits p m (deed.Jump taken a) l f = tt
 done-fits p m (deed.Loop r v taken a) l f = tt
-done-fits p m (deed.Interrupts on) l f = tt
+done-fits p m deed.EnableInterrupts l f = tt
+done-fits p m deed.DisableInterrupts l f = tt
 
 code-bytes : (image : List ℕ) (pc : ℕ) → AllRead image → ByteCode (codeAt image pc)
 unfolding codeAt

@@ -1,3 +1,3 @@
 pub mod Legal
 pub mod Theorems
-pub mod Last3
+pub mod Leaves

@@ -1,5 +1,5 @@
 -- What is written when a deed is done, and in which order (01 "Instructions").
-use mathlib.Core.Bool.{Bool, true}
+use mathlib.Core.Bool.{Bool, true, false}
 use Prim.Native.Nat.{ℕ, _+_, _%_}
 use Rattle.word.specs.Choose.{pick, bitsIf}
 use Rattle.word.specs.Fields.{highByte, lowByte}
@@ -9,7 +9,7 @@ use Rattle.alu.specs.declared.Flags.{Flags}
 use Rattle.alu.specs.declared.Outcome.{Outcome}
 use Rattle.alu.specs.declared.WordOutcome.{WordOutcome}
 use Rattle.machine.specs.Names.{IMR, FLAGS}
-use Rattle.machine.specs.State.{held, placed, withPc}
+use Rattle.machine.specs.State.{held, placed, withPc, withReleased}
 use Rattle.machine.specs.Registers.{readReg, writeReg}
 use Rattle.machine.specs.Addresses.{readPair, writePair}
 use Rattle.machine.specs.Stack.{Stacked, pushed, raised}
@@ -71,6 +71,11 @@ returned m to = withPc (raised m 2) to
 unfoldable pub interruptsTo : Machine → Bool → Machine
 interruptsTo m on = placed m IMR (held m IMR % 128 + bitsIf on 0x80)
 
+-- EI: IMR (7) <-- 1, and IRQ, "held in a Reset state until an EI instruction is executed" (004, 10.4.3), is released (02, C-13). Nothing else releases
+-- it, not IRET or a store, which may set IMR's bit 7 too; and DI holds nothing again.
+unfoldable pub interruptsEnabled : Machine → Machine
+interruptsEnabled m = withReleased (interruptsTo m true) true
+
 -- IRET: FLAGS <-- @SP, PC <-- @SP, IMR (7) <-- 1, with SP written first
 unfoldable pub interruptReturned : Machine → ℕ → ℕ → Machine
 interruptReturned m flags to = interruptsTo (withPc (placed (raised m 3) FLAGS flags) to) true
@@ -102,4 +107,5 @@ doneOf p m (deed.Return a) = noStores (returned m a)
 doneOf p m (deed.ReturnFromInterrupt flags a) = noStores (interruptReturned m flags a)
 doneOf p m (deed.Jump taken a) = noStores (jumped m taken a)
 doneOf p m (deed.Loop r v taken a) = noStores (looped m r v taken a)
-doneOf p m (deed.Interrupts on) = noStores (interruptsTo m on)
+doneOf p m deed.EnableInterrupts = noStores (interruptsEnabled m)
+doneOf p m deed.DisableInterrupts = noStores (interruptsTo m false)

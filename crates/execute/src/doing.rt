@@ -11,7 +11,7 @@ ghost use mathlib.Core.Path.{_≡_};
 ghost use Rattle.machine.specs.State.{withPc};
 ghost use Rattle.lent.specs.View.{machineIn, left, stacked};
 ghost use Rattle.deeds.specs.Modes.{flagsOf};
-ghost use Rattle.execute.specs.Doing.{flagged, storedAt, wordStoredAt, countedUp, pairCountedUp, interruptsTo, called};
+ghost use Rattle.execute.specs.Doing.{flagged, storedAt, wordStoredAt, countedUp, pairCountedUp, interruptsTo, interruptsEnabled, called};
 
 // FLAGS, as they stand.
 pub fn flags(regs: &File, rest: &Rest) -> u8
@@ -78,6 +78,14 @@ pub fn interrupts(regs: &mut File, rest: &Rest, on: bool)
     let imr = machine::file::held(regs, names::IMR);
     let bit = word::bits_if(on, 0x80);
     machine::file::place(regs, names::IMR, imr % 128 + bit);
+}
+
+// EI: bit 7 of IMR, and IRQ is released.
+pub fn enable_interrupts(regs: &mut File, rest: &mut Rest)
+    ensures { λ _. ⌜ machineIn (now (regs .exit)) (now (rest .exit)) ≡ interruptsEnabled (machineIn (now (regs .entry)) (now (rest .entry))) ⌝ }
+{
+    interrupts(regs, rest, true);
+    lent::set_released(regs, rest, true);
 }
 
 // The cycles of a refused instruction; every other has some.

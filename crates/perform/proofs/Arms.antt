@@ -31,7 +31,7 @@ use Rattle.deeds.specs.Modes.{flagsOf, oneAt, targetOf}
 use Rattle.deeds.specs.Results.{unaryOf}
 use Rattle.deeds.specs.Pages.{conditionOf, deedOf, outcomeOf, unaryDeed, ldDeed, jpDeed, jrDeed, djnzDeed, retDeed, iretDeed, rcfDeed, scfDeed, ccfDeed}
 use Rattle.deeds.specs.declared.Code.{Code}
-use Rattle.execute.specs.Doing.{doneOf, storedAt, transferred, returned, interruptsTo, interruptReturned, jumped, looped}
+use Rattle.execute.specs.Doing.{doneOf, storedAt, transferred, returned, interruptsTo, interruptsEnabled, interruptReturned, jumped, looped}
 use Rattle.execute.specs.ForCode.{Performed, performed, columnLength, instructionAt}
 use Rattle.operands.specs.ForCode.{twoIn, noOperands, columns, columnAt, At}
 use Rattle.operands.specs.declared.Operands.{Operands}
@@ -96,7 +96,7 @@ module _ {p : Pins} {n : Machine} {pc : ℕ} {i : Code} {o : Operands} (image me
   unfolding entryOf opcodeMap lengthOf deedOf outcomeOf doneOf storedIn
   di-arm m u = alone-is 8 Di m u refl
 
-  pub ei-arm : At 15 16 p n pc i o → upper (i .op) ≡ 9 → performed (interruptsTo n true) mem 6 ≡ instructionAt p image mem n pc i
+  pub ei-arm : At 15 16 p n pc i o → upper (i .op) ≡ 9 → performed (interruptsEnabled n) mem 6 ≡ instructionAt p image mem n pc i
   unfolding entryOf opcodeMap lengthOf deedOf outcomeOf doneOf storedIn
   ei-arm m u = alone-is 9 Ei m u refl
 

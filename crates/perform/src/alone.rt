@@ -30,7 +30,7 @@ pub fn alone(
             6
         }
         9 => {
-            execute::doing::interrupts(regs, rest, true);
+            execute::doing::enable_interrupts(regs, rest);
             6
         }
         10 => {

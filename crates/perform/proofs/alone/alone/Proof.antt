@@ -13,8 +13,8 @@ use Rattle.perform.proofs.Arms.{di-arm, ei-arm, ret-arm, iret-arm, rcf-
 interrupts-requires : tie.Need-interrupts-requires
 interrupts-requires c κs = search needs
 
-interrupts-requires-2 : tie.Need-interrupts-requires-2
-interrupts-requires-2 c κs = search needs
+enable-interrupts-requires : tie.Need-enable-interrupts-requires
+enable-interrupts-requires c κs = search needs
 
 ret-requires : tie.Need-ret-requires
 ret-requires c κs = search needs
@@ -59,7 +59,7 @@ returns : tie.Need-returns
 returns c = rw (c .interrupts .ensures) (di-arm _ _ (c .before .before .before .before .before .before .before .pre) (c .before .before .before .match .keys1))
 
 returns-2 : tie.Need-returns-2
-returns-2 c = rw (c .interrupts2 .ensures) (ei-arm _ _ (c .before .before .before .before .before .before .before .pre) (c .before .before .before .match .keys2))
+returns-2 c = rw (c .enable-interrupts .ensures) (ei-arm _ _ (c .before .before .before .before .before .before .before .pre) (c .before .before .before .match .keys2))
 
 returns-3 : tie.Need-returns-3
 returns-3 c = rw (c .ret .ensures) (ret-arm _ _ (c .before .before .before .before .before .before .before .pre) (c .before .before .before .match .keys3))
@@ -108,7 +108,7 @@ alone-spec =
     tie.close
     (tie.spec
     interrupts-requires
-    interrupts-requires-2
+    enable-interrupts-requires
     ret-requires
     iret-requires
     flags-requires
