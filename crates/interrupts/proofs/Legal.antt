@@ -3,7 +3,6 @@ use mathlib.Core.Path.{_≡_}
 use mathlib.Core.Bool.{false}
 use mathlib.Core.List.{List}
 use Prim.Native.Nat.{ℕ, _+_, _-_, _*_, _^_, _≤_, _<_}
-use native.Mathlib.Nat.{lt-of-le-of-lt}
 use native.Mathlib.Omega.{arith}
 use lib.Bits.{bitAnd, and-le-l}
 use lib.Dec.{lit<}
@@ -12,6 +11,7 @@ use Rattle.word.proofs.Computed.{by-test}
 use Rattle.timers.specs.Control.{settingOf}
 use Rattle.timers.specs.Clock.{LegalMoving}
 use Rattle.timers.specs.declared.Spanned.{Spanned}
+use Rattle.timers.proofs.Latched.{fits-irq, fewer-fit}
 use Rattle.timers.proofs.Legal.{edge-legal}
 use Rattle.timers.proofs.Theorems.{edge-within}
 use Rattle.machine.specs.State.{held, placed, withPc}
@@ -21,7 +21,7 @@ use Rattle.machine.specs.Legal.{Legal}
 use Rattle.serial.specs.declared.Mode.{Mode}
 use Rattle.machine.specs.declared.Machine.{Machine}
 use Rattle.machine.specs.declared.Bytes.the-variants.{Three}
-use Rattle.machine.proofs.Legal.{irq-fits, placed-legal, pc-legal, last3-legal, moved-legal, setting-of, pushed-legal, program-byte}
+use Rattle.machine.proofs.Legal.{fits-may, placed-legal, pc-legal, last3-legal, moved-legal, setting-of, pushed-legal, program-byte}
 use Rattle.machine.proofs.Whole.{push-keeps}
 use Rattle.deeds.specs.Modes.{flagsOf}
 use Rattle.deeds.proofs.Fits.{AllRead}
@@ -56,8 +56,11 @@ flags-byte l = l .file .bytes 0xFC
 acknowledged-legal : {m : Machine} (image : List ℕ) (n : ℕ) → Legal m → AllRead image → Legal (acknowledged image n m)
 unfolding acknowledged cleared vectorOf movingOf
 acknowledged-legal {m} image n l all =
-    let low : bitAnd (held m 0xFA) (255 - 2 ^ n) < 64 = lt-of-le-of-lt (and-le-l (held m 0xFA) (255 - 2 ^ n)) (l .moving .irq-high) in
-    pc-legal _ (interrupts-legal false (placed-legal 0xFA _ l (lit< tt) (omega (arith, low)) (irq-fits _ low)))
+    let r = movingOf m .lines .requests in
+    let fewer : bitAnd (held m 0xFA) (255 - 2 ^ n) ≤ held m 0xFA = and-le-l (held m 0xFA) (255 - 2 ^ n) in
+    let fits = fewer-fit r (bitAnd (held m 0xFA) (255 - 2 ^ n)) (l .moving .requests-fit) fewer in
+    let byte = fits-irq r (l .moving .requests-fit) in
+    pc-legal _ (interrupts-legal false (placed-legal 0xFA _ l (lit< tt) (omega (arith, fewer, byte)) (fits-may (m .released) _ fits)))
     (omega (arith, program-byte image (2 * n) all, program-byte image (2 * n + 1) all))
 
 pub entered-legal : {m : Machine} (image : List ℕ) (n : ℕ) → Legal m → AllRead image → Legal (enteredOf image m n .machine)

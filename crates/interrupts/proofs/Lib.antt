@@ -3,3 +3,4 @@ pub mod Steady
 pub mod Orders
 pub mod Legal
 pub mod Entries
+pub mod Held

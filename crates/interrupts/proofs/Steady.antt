@@ -10,7 +10,7 @@ use Rattle.word.specs.Fields.{isSet}
 use Rattle.word.proofs.Computed.{agree, agree3}
 use Rattle.timers.specs.Requests.{latchedIf}
 use Rattle.timers.specs.Clock.{begun}
-use Rattle.machine.specs.State.{held, placed, withLast3, withPort}
+use Rattle.machine.specs.State.{held, placed, withLast3, withReleased, withPort}
 use Rattle.machine.specs.Clock.{movingOf, movedTo, countsAt}
 use Rattle.machine.specs.declared.Machine.{Machine}
 use Rattle.machine.proofs.Lens.{put-own, put-irq, put-other}
@@ -75,7 +75,7 @@ compared-last m given = refl
 
 -- IRQ then
 pub requests-seen : (m : Machine) (given : ℕ) → length (m .regs) ≡ 256 → held m 0xF1 < 256
-    → held (comparedOf m given .machine) 0xFA ≡ movedByEdges m given .moving .lines .irq
+    → held (comparedOf m given .machine) 0xFA ≡ movedByEdges m given .moving .lines .requests .irq
 unfolding comparedOf withLast3
 requests-seen m given long h = put-irq m long h (movedByEdges m given .moving)
 
@@ -87,6 +87,6 @@ pub record Left (m n : Machine) : Type 0 where
   pub place-left : (a : ℕ) → (a ≡ 0xF1 → ⊥) → (a ≡ 0xFA → ⊥) → held n a ≡ held m a
 
 pub compared-leaves : (m : Machine) (given : ℕ) → length (m .regs) ≡ 256 → held m 0xF1 < 256 → Left m (comparedOf m given .machine)
-unfolding comparedOf withLast3 movedTo placed countsAt withPort
+unfolding comparedOf withLast3 movedTo placed countsAt withReleased withPort
 compared-leaves m given long h =
     record { pc-left = refl; kind-left = refl; cost-left = refl; place-left = put-other m long h (movedByEdges m given .moving) }

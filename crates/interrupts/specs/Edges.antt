@@ -9,6 +9,7 @@ use Rattle.serial.specs.declared.Port.{Port}
 use Rattle.timers.specs.Requests.{latchedIf}
 use Rattle.timers.specs.Control.{settingOf}
 use Rattle.timers.specs.Clock.{begun, edgeOf}
+use Rattle.timers.specs.declared.RequestRegister.{RequestRegister}
 use Rattle.timers.specs.declared.Moving.{Moving}
 use Rattle.timers.specs.declared.Spanned.{Spanned}
 use Rattle.machine.specs.State.{withLast3}
@@ -20,14 +21,14 @@ use Rattle.machine.specs.declared.Machine.{Machine}
 unfoldable pub fell : ℕ → ℕ → ℕ → Bool
 fell n last given = isSet n last && not (isSet n given)
 
--- "falling edges on P32, P33, P31, P30 latch requests 0, 1, 2, 3": IRQ after them. Request 3 comes "from the port while it is on and not from
--- P30" (02, C-11).
-unfoldable pub latchedBy : Bool → ℕ → ℕ → ℕ → ℕ
-latchedBy on last given irq =
-    let irq₀ = latchedIf (fell 2 last given) 0 irq in
-    let irq₁ = latchedIf (fell 3 last given) 1 irq₀ in
-    let irq₂ = latchedIf (fell 1 last given) 2 irq₁ in
-    latchedIf (fell 0 last given && not on) 3 irq₂
+-- "falling edges on P32, P33, P31, P30 latch requests 0, 1, 2, 3": the request register after them, where it is released (`latch` of `timers`).
+-- Request 3 comes "from the port while it is on and not from P30" (02, C-11).
+unfoldable pub latchedBy : Bool → ℕ → ℕ → RequestRegister → RequestRegister
+latchedBy on last given r =
+    let r₀ = latchedIf (fell 2 last given) 0 r in
+    let r₁ = latchedIf (fell 3 last given) 1 r₀ in
+    let r₂ = latchedIf (fell 1 last given) 2 r₁ in
+    latchedIf (fell 0 last given && not on) 3 r₂
 
 -- While it is on, the edge of P30 is what the receiver is "looking for": "a start bit (a High-to-Low input transition)" (004, 12.3.1).
 unfoldable pub startedBy : Bool → ℕ → ℕ → Port → Port
@@ -43,7 +44,7 @@ withEdges on last given x =
       t1 = x .t1;
       lines =
           record {
-            irq = latchedBy on last given (x .lines .irq);
+            requests = latchedBy on last given (x .lines .requests);
             tout = x .lines .tout;
             port = startedBy on last given (x .lines .port);
           };

@@ -4,6 +4,7 @@ use machine::File;
 use machine::names;
 use serial::Port;
 use timers::Lines;
+use timers::RequestRegister;
 use timers::Spanned;
 ghost use mathlib.Core.Path.{_≡_};
 ghost use Prim.Native.Nat.{_<_};
@@ -31,18 +32,18 @@ fn fell(n: u8, last: u8, given: u8) -> bool
     was & !is
 }
 
-// IRQ after the edges, the serial port being on or off.
-fn latched_by(on: bool, last: u8, given: u8, irq: u8) -> u8
-    ensures { λ r. ⌜ r ≡ latchedBy on last given irq ⌝ }
+// The request register after the edges, the serial port being on or off.
+fn latched_by(on: bool, last: u8, given: u8, r: RequestRegister) -> RequestRegister
+    ensures { λ a. ⌜ a ≡ latchedBy on last given r ⌝ }
 {
     let p32 = fell(2, last, given);
     let p33 = fell(3, last, given);
     let p31 = fell(1, last, given);
     let p30 = fell(0, last, given);
-    let irq0 = timers::requests::latched_if(p32, 0, irq);
-    let irq1 = timers::requests::latched_if(p33, 1, irq0);
-    let irq2 = timers::requests::latched_if(p31, 2, irq1);
-    timers::requests::latched_if(p30 & !on, 3, irq2)
+    let r0 = timers::requests::latched_if(p32, 0, r);
+    let r1 = timers::requests::latched_if(p33, 1, r0);
+    let r2 = timers::requests::latched_if(p31, 2, r1);
+    timers::requests::latched_if(p30 & !on, 3, r2)
 }
 
 // The serial port after the edges.
@@ -73,11 +74,12 @@ fn moved(regs: &File, rest: &Rest, given: u8) -> Spanned
     let mode = clock::port_mode(regs, rest);
     let old = m.lines;
     let line = old.port;
-    let irq = latched_by(mode.on, last, given, old.irq);
+    let asked = old.requests;
+    let requests = latched_by(mode.on, last, given, asked);
     let port = started_by(mode.on, last, given, line);
     let p31 = fell(1, last, given);
     let lines = Lines {
-        irq,
+        requests,
         tout: old.tout,
         port,
     };
@@ -107,7 +109,8 @@ pub fn requests(regs: &File, rest: &Rest, given: u8) -> u8
     let x = moved(regs, rest, given);
     let after = x.moving;
     let lines = after.lines;
-    lines.irq
+    let requests = lines.requests;
+    requests.irq
 }
 
 // The pins compared, and T1's ends by that.

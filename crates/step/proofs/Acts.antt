@@ -25,7 +25,7 @@ use Rattle.deeds.proofs.Fits.{AllRead}
 use Rattle.execute.specs.Execute.{Execution, refusedOf, codeAt, performOf, executeAs, executeOf}
 use Rattle.execute.specs.ForCode.{Performed, performed, performedBy}
 use Rattle.execute.proofs.Theorems.{undefined-refused, defined-done}
-use Rattle.execute.proofs.Last3.{execute-leaves}
+use Rattle.execute.proofs.Leaves.{execute-leaves}
 use Rattle.interrupts.specs.Edges.{comparedOf}
 use Rattle.interrupts.specs.Grants.{granted, grantOf}
 use Rattle.interrupts.specs.Entry.{enteredOf}
@@ -167,7 +167,7 @@ action-taken p image mem m d =
 -- what is done leaves them
 pub done-leaves : (p : Pins) (image mem : List ℕ) (m : Machine) (g : Grant) → grantedOr p image mem m g .machine .last3 ≡ m .last3
 unfolding grantedOr
-done-leaves p image mem m grant.Nothing = execute-leaves p image mem m
+done-leaves p image mem m grant.Nothing = execute-leaves p image mem m .last3-left
 done-leaves p image mem m (grant.Request n) = entered-leaves m image n
 
 -- so after a step that is not refused they are those given

@@ -1,4 +1,5 @@
 pub mod Good
 pub mod Acts
+pub mod Held
 pub mod Turns
 pub mod Theorems

@@ -30,14 +30,14 @@ latched-if-requires-4 c κs = search needs
 returns : tie.Need-returns
 unfolding latchedBy
 returns c =
-    let irq2 : tie.After-latched-if3 = c .before in
-    let irq1 : tie.After-latched-if2 = irq2 .before in
-    let irq0 : tie.After-latched-if = irq1 .before in
-    let p30 : tie.After-fell4 = irq0 .before in
+    let r2 : tie.After-latched-if3 = c .before in
+    let r1 : tie.After-latched-if2 = r2 .before in
+    let r0 : tie.After-latched-if = r1 .before in
+    let p30 : tie.After-fell4 = r0 .before in
     let p31 : tie.After-fell3 = p30 .before in
     let p33 : tie.After-fell2 = p31 .before in
     let p32 : tie.After-fell = p33 .before in
-    rw (c .latched-if4 .ensures, irq2 .latched-if3 .ensures, irq1 .latched-if2 .ensures, irq0 .latched-if .ensures, p30 .fell4 .ensures, p31 .fell3 .ensures, p33 .fell2 .ensures, p32 .fell .ensures)
+    rw (c .latched-if4 .ensures, r2 .latched-if3 .ensures, r1 .latched-if2 .ensures, r0 .latched-if .ensures, p30 .fell4 .ensures, p31 .fell3 .ensures, p33 .fell2 .ensures, p32 .fell .ensures)
 
 pub latched-by-spec : {M : Type 1} → statement M
 latched-by-spec =

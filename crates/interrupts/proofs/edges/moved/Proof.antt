@@ -29,7 +29,7 @@ edge-requires : tie.Need-edge-requires
 edge-requires c κs =
     let started : tie.After-started-by = c .before .before in
     let latched : tie.After-latched-by = started .before in
-    let now : tie.After-moving-of = latched .before .before .before .before in
+    let now : tie.After-moving-of = latched .before .before .before .before .before in
     let begun : tie.Start = now .before .before .before in
     rw (started .started-by .ensures, latched .latched-by .ensures, now .moving-of .ensures) (edges-legal-moving _ _ _ (begun .pre .moving))
 
@@ -40,7 +40,7 @@ returns c =
     let fallen : tie.After-fell = p31 .before in
     let started : tie.After-started-by = fallen .before in
     let latched : tie.After-latched-by = started .before in
-    let mode : tie.After-port-mode = latched .before .before .before in
+    let mode : tie.After-port-mode = latched .before .before .before .before in
     let now : tie.After-moving-of = mode .before in
     let control : tie.After-control-of = now .before in
     let pins : tie.After-last3 = control .before in
@@ -52,7 +52,7 @@ returns-2 c =
     let fallen : tie.After-fell = c .before in
     let started : tie.After-started-by = fallen .before in
     let latched : tie.After-latched-by = started .before in
-    let mode : tie.After-port-mode = latched .before .before .before in
+    let mode : tie.After-port-mode = latched .before .before .before .before in
     let now : tie.After-moving-of = mode .before in
     let pins : tie.After-last3 = now .before .before in
     rw (started .started-by .ensures, latched .latched-by .ensures, mode .port-mode .ensures, now .moving-of .ensures, ← pins .last3 .ensures, ← fallen .fell .ensures, c .if1 .left)

@@ -37,7 +37,7 @@ moved-requires c κs = search needs
 
 returns-2 : tie.Need-returns-2
 returns-2 c =
-    let edges : tie.After-moved = c .before .before in
+    let edges : tie.After-moved = c .before .before .before in
     let begun : tie.Start = edges .before .before .before .before in
     let m = machineIn (now (begun .args .regs)) (now (begun .args .rest)) in
     let file = begun .pre .file in
