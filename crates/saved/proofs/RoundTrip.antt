@@ -1,30 +1,31 @@
 -- A legal 276 bytes loads to a legal machine whose saved form is those bytes, and a legal machine's saved form is legal and loads to it.
 use mathlib.Core.Path.{_≡_, _∙_, refl, sym, ap}
-use mathlib.Core.Bool.{Bool, true, false, _&&_}
+use mathlib.Core.Bool.{Bool, true, false, not, _&&_, _||_}
 use mathlib.Core.List.{List, [], _∷_, _++_}
 use Prim.Native.Nat.{ℕ, zero, suc, _+_, _≤_, _<_}
 use native.Mathlib.Omega.{arith}
 use native.Mathlib.Decide.{decLt, ℕ-discrete}
 use native.Mathlib.Nat.{mod-eq-of-lt}
 use borrow.Author.Tests.{eqb-true, eqb-false, eq-eqb, ne-eqb, le-leb}
-use lib.Dec.{T, eqb, leb, eqb→eq, leb→le, le→leb, lit<, lit≤}
+use lib.Dec.{T, eqb, ltb, leb, eqb→eq, ltb→lt, leb→le, le→leb, lit<, lit≤}
 use lib.ListN.{getD, length, take, drop, length-append, take-append-drop, drop-of-length-le, List·getD-eq-default, List·getD-append}
 use lib.Seq.{drop-cons, length-take-le, getD-take, getD-append-add, take-at}
 use Rattle.numbers.specs.Numbers.{refusedMachine, refusedLength, savedLength}
 use Rattle.word.specs.Choose.{pick, oneIf}
-use Rattle.word.specs.Fields.{bitOf, lower, wordOf, highByte, lowByte}
-use Rattle.word.proofs.Computed.{by-test, agree, and-left, and-right}
+use Rattle.word.specs.Fields.{bitOf, isSet, lower, wordOf, highByte, lowByte}
+use Rattle.word.proofs.Computed.{by-test, at, under, agree, and-left, and-right}
 use Rattle.serial.specs.Transmitter.{transmitterFits}
 use Rattle.serial.specs.Receiver.{receiverFits}
 use Rattle.timers.specs.Control.{orHighest}
+use Rattle.timers.proofs.Latched.{fits-irq, fits-zero, zero-fits, released-fits}
 use Rattle.machine.specs.State.{heldIn}
 use Rattle.machine.specs.Clock.{movingOf}
 use Rattle.machine.specs.Registers.{isHole}
 use Rattle.machine.specs.Start.{isKind, isCost}
 use Rattle.machine.specs.Legal.{mayHold, LegalFile, Legal}
 use Rattle.machine.specs.declared.Machine.{Machine}
-use Rattle.machine.proofs.Legal.{zero-may, irq-small}
-use Rattle.saved.specs.Saved.{byte, timerOf, portOf, portFits, machineOf, restOf, savedOf, countsFit, ownFit, zeros, holesEmpty, bitsClear, legalOf, firstOf, legalRefusal, refusalOf, lengthRefusal}
+use Rattle.machine.proofs.Legal.{zero-may, may-fit, fits-may}
+use Rattle.saved.specs.Saved.{byte, timerOf, portOf, portFits, machineOf, restOf, savedOf, countsFit, ownFit, markFits, zeros, holesEmpty, bitsClear, legalOf, firstOf, legalRefusal, refusalOf, lengthRefusal}
 use Rattle.saved.specs.ForCode.{loadOf}
 
 -- what is not refused with 7 is as long as a saved machine
@@ -97,6 +98,13 @@ level-again : (b : Bool) → eqb (oneIf b) 1 ≡ b
 level-again true = refl
 level-again false = refl
 
+mark-back : (v : ℕ) → v ≤ 1 → oneIf (isSet 0 v) ≡ v
+mark-back v h = agree (λ x. oneIf (isSet 0 x)) (λ x. x) 2 refl v (omega arith)
+
+mark-again : (b : Bool) → isSet 0 (oneIf b) ≡ b
+mark-again true = refl
+mark-again false = refl
+
 -- ---- what a legal 276 bytes say
 both : (a b : Bool) → T a → T b → T (a && b)
 both true b t u = u
@@ -110,6 +118,9 @@ all-four a b c d t u v w = both (a && b && c) d (all-three a b c t u v) w
 
 all-five : (a b c d e : Bool) → T a → T b → T c → T d → T e → T (a && b && c && d && e)
 all-five a b c d e t u v w x = both (a && b && c && d) e (all-four a b c d t u v w) x
+
+all-six : (a b c d e f : Bool) → T a → T b → T c → T d → T e → T f → T (a && b && c && d && e && f)
+all-six a b c d e f t u v w x y = both (a && b && c && d && e) f (all-five a b c d e t u v w x) y
 
 -- tests that all pass, one by one
 three : (a b c : Bool) → T (a && b && c) → T a × (T b × T c)
@@ -127,6 +138,11 @@ five a b c d e t =
     let f = four a b c d (and-left (a && b && c && d) e t) in
     (f .0, (f .1 .0, (f .1 .1 .0, (f .1 .1 .1, and-right (a && b && c && d) e t))))
 
+six : (a b c d e f : Bool) → T (a && b && c && d && e && f) → T a × (T b × (T c × (T d × (T e × T f))))
+six a b c d e f t =
+    let g = five a b c d e (and-left (a && b && c && d && e) f t) in
+    (g .0, (g .1 .0, (g .1 .1 .0, (g .1 .1 .1 .0, (g .1 .1 .1 .1, and-right (a && b && c && d && e) f t)))))
+
 pub record Facts (s : List ℕ) : Type 0 where
   pub divider : byte s 258 ≤ 3
   pub prescaler0-low : 1 ≤ byte s 259
@@ -136,7 +152,8 @@ pub record Facts (s : List ℕ) : Type 0 where
   pub cost : T (isCost (byte s 266))
   pub tout : byte s 264 ≤ 1
   pub kind : T (isKind (byte s 265))
-  pub spare : byte s 267 ≡ 0
+  pub mark-bits : byte s 267 ≤ 1
+  pub mark : T (isSet 0 (byte s 267) || eqb (byte s 0xFA) 0)
   pub holes : T (holesEmpty s)
   pub receiver : T (receiverFits (portOf s .receiver))
   pub transmitter : T (transmitterFits (portOf s .transmitter))
@@ -146,21 +163,22 @@ pub record Facts (s : List ℕ) : Type 0 where
   pub rp : T (eqb (lower (byte s 0xFD)) 0)
 
 facts : (s : List ℕ) → T (legalOf s) → Facts s
-unfolding legalOf countsFit ownFit bitsClear portFits
+unfolding legalOf countsFit ownFit markFits bitsClear portFits
 facts s t =
     let tmr = byte s 0xF1 in
     let irq = byte s 0xFA in
     let parts =
-    five
+    six
     (countsFit (byte s 258) (byte s 259) (byte s 261))
-    (ownFit (byte s 266) (byte s 264) (byte s 265) (byte s 267))
+    (ownFit (byte s 266) (byte s 264) (byte s 265))
+    (markFits (byte s 267) irq)
     (holesEmpty s)
     (bitsClear tmr irq (byte s 0xFD))
     (portFits (portOf s) (byte s 275))
     t in
-    let p = three (receiverFits (portOf s .receiver)) (transmitterFits (portOf s .transmitter)) (eqb (byte s 275) 0) (parts .1 .1 .1 .1) in
+    let p = three (receiverFits (portOf s .receiver)) (transmitterFits (portOf s .transmitter)) (eqb (byte s 275) 0) (parts .1 .1 .1 .1 .1) in
     let c = five (leb (byte s 258) 3) (leb 1 (byte s 259)) (leb (byte s 259) 64) (leb 1 (byte s 261)) (leb (byte s 261) 64) (parts .0) in
-    let o = four (isCost (byte s 266)) (leb (byte s 264) 1) (isKind (byte s 265)) (eqb (byte s 267) 0) (parts .1 .0) in
+    let o = three (isCost (byte s 266)) (leb (byte s 264) 1) (isKind (byte s 265)) (parts .1 .0) in
     let b =
     five
     (eqb (bitOf 0 tmr) 0)
@@ -168,7 +186,7 @@ facts s t =
     (eqb (bitOf 6 irq) 0)
     (eqb (bitOf 7 irq) 0)
     (eqb (lower (byte s 0xFD)) 0)
-    (parts .1 .1 .1 .0) in
+    (parts .1 .1 .1 .1 .0) in
     record {
       divider = leb→le (byte s 258) 3 (c .0);
       prescaler0-low = leb→le 1 (byte s 259) (c .1 .0);
@@ -177,9 +195,10 @@ facts s t =
       prescaler1-high = leb→le (byte s 261) 64 (c .1 .1 .1 .1);
       cost = o .0;
       tout = leb→le (byte s 264) 1 (o .1 .0);
-      kind = o .1 .1 .0;
-      spare = eqb→eq (byte s 267) 0 (o .1 .1 .1);
-      holes = parts .1 .1 .0;
+      kind = o .1 .1;
+      mark-bits = leb→le (byte s 267) 1 (and-left (leb (byte s 267) 1) (isSet 0 (byte s 267) || eqb irq 0) (parts .1 .1 .0));
+      mark = and-right (leb (byte s 267) 1) (isSet 0 (byte s 267) || eqb irq 0) (parts .1 .1 .0);
+      holes = parts .1 .1 .1 .0;
       receiver = p .0;
       transmitter = p .1 .0;
       port-spare = eqb→eq (byte s 275) 0 (p .1 .1);
@@ -206,9 +225,9 @@ zeros-from s (suc n) i f =
     (zeros-from s n (i + 1) (λ a h k. f a (omega arith) (omega arith)))
 
 -- a hole may hold zero alone
-hole-holds : (a v : ℕ) → 0x80 ≤ a → a ≤ 0xF0 → T (mayHold a v) → v ≡ 0
+hole-holds : (e : Bool) (a v : ℕ) → 0x80 ≤ a → a ≤ 0xF0 → T (mayHold e a v) → v ≡ 0
 unfolding mayHold
-hole-holds a v h k t = eqb→eq v 0 (rw (le-leb 0x80 a h, le-leb a 0xF0 k) at t)
+hole-holds e a v h k t = eqb→eq v 0 (rw (le-leb 0x80 a h, le-leb a 0xF0 k) at t)
 
 hole-empty : (s : List ℕ) → T (holesEmpty s) → (a : ℕ) → isHole a ≡ true → byte s a ≡ 0
 unfolding holesEmpty
@@ -221,22 +240,39 @@ hole-empty s t a e =
     within : (b : ℕ) → b ≤ 0xF0 → b < 0x80 + 113
     within b h = omega arith
 
+passed : (b : Bool) → T b → b ≡ true
+passed true t = refl
+passed false t = absurd t
+
+-- IRQ, its bits as 01 and C-13 say it, and as it may be held
+irq-holds : (e : Bool) (v : ℕ) → v < 256 → T (eqb (bitOf 6 v) 0 && eqb (bitOf 7 v) 0) → T (e || eqb v 0) → T (mayHold e 0xFA v)
+irq-holds true v h t u =
+    fits-may true v (released-fits v (ltb→lt v 64 (under (eqb (bitOf 6 v) 0 && eqb (bitOf 7 v) 0) (ltb v 64) (at (λ x. not (eqb (bitOf 6 x) 0 && eqb (bitOf 7 x) 0) || ltb x 64) 256 tt v h) (passed _ t))))
+irq-holds false v h t u = rw (eqb→eq v 0 u) (fits-may false 0 (zero-fits false))
+
+irq-held : (e : Bool) (v : ℕ) → T (mayHold e 0xFA v) → T (eqb (bitOf 6 v) 0 && eqb (bitOf 7 v) 0) × T (e || eqb v 0)
+irq-held e v t = (at (λ x. eqb (bitOf 6 x) 0 && eqb (bitOf 7 x) 0) 64 tt v (fits-irq (record { irq = v; released = e }) (may-fit e v t)), go e t)
+  where
+    go : (b : Bool) → T (mayHold b 0xFA v) → T (b || eqb v 0)
+    go true u = tt
+    go false u = rw (fits-zero (record { irq = v; released = false }) (may-fit false v u) refl) tt
+
 module _ (s : List ℕ) (long : length s ≡ savedLength) (bytes : (i : ℕ) → byte s i < 256) (f : Facts s) where
-  place-fits : (a : ℕ) → T (mayHold a (byte s a))
+  place-fits : (a : ℕ) → T (mayHold (isSet 0 (byte s 267)) a (byte s a))
   unfolding mayHold
   place-fits a =
       by-test T (isHole a) (λ hole. rw (hole-empty s (f .holes) a hole) tt) (λ t.
       by-test T (eqb a 0xF1) (λ e. rw (eqb-true a 0xF1 e) (f .tmr)) (λ t.
-      by-test T (eqb a 0xFA) (λ e. rw (eqb-true a 0xFA e) (f .irq)) (λ t.
+      by-test T (eqb a 0xFA) (λ e. rw (eqb-true a 0xFA e) (may-fit _ _ (irq-holds _ _ (bytes 0xFA) (f .irq) (f .mark)))) (λ t.
       by-test T (eqb a 0xFD) (λ e. rw (eqb-true a 0xFD e) (f .rp)) (λ t. tt))))
 
-  file-legal : LegalFile (take 256 s)
+  file-legal : LegalFile (isSet 0 (byte s 267)) (take 256 s)
   unfolding heldIn
   file-legal =
       record {
         long = length-take-le 256 s (omega arith);
         bytes = λ a. each-front (λ v. v < 256) s 256 a (omega arith) (λ h. bytes a) (lit< tt);
-        places = λ a. each-front (λ v. T (mayHold a v)) s 256 a (omega arith) (λ h. place-fits a) (zero-may a);
+        places = λ a. each-front (λ v. T (mayHold (isSet 0 (byte s 267)) a v)) s 256 a (omega arith) (λ h. place-fits a) (zero-may _ a);
       }
 
   -- a counter read from a byte is 1 to 256
@@ -263,7 +299,7 @@ module _ (s : List ℕ) (long : length s ≡ savedLength) (bytes : (i : ℕ) →
                   record { prescaler-low = f .prescaler0-low; prescaler-high = f .prescaler0-high; counter-low = c0 .0; counter-high = c0 .1 };
               counting1 =
                   record { prescaler-low = f .prescaler1-low; prescaler-high = f .prescaler1-high; counter-low = c1 .0; counter-high = c1 .1 };
-              irq-high = irq-small _ (file .bytes 0xFA) (file .places 0xFA);
+              requests-fit = may-fit _ _ (file .places 0xFA);
               port-legal =
                   record {
                     legal-receiver = record { received-byte = bytes 268; shift-byte = bytes 269; fits = f .receiver };
@@ -287,7 +323,7 @@ module _ (s : List ℕ) (long : length s ≡ savedLength) (bytes : (i : ℕ) →
         mod-eq-of-lt (bytes 261),
         counter-back (byte s 262) (bytes 262),
         level-back (byte s 264) (f .tout),
-        f .spare,
+        mark-back (byte s 267) (f .mark-bits),
         f .port-spare,
       )
 
@@ -335,6 +371,7 @@ module _ (m : Machine) (l : Legal m) where
         back 8,
         back 9,
         back 10,
+        back 11,
         back 12,
         back 13,
         back 14,
@@ -349,13 +386,14 @@ module _ (m : Machine) (l : Legal m) where
         counter-again (m .t0 .counter) (l .moving .counting0 .counter-low) (l .moving .counting0 .counter-high),
         counter-again (m .t1 .counter) (l .moving .counting1 .counter-low) (l .moving .counting1 .counter-high),
         level-again (m .tout),
+        mark-again (m .released),
       )
 
   holes-saved : T (holesEmpty (savedOf m))
   unfolding holesEmpty
   holes-saved =
       zeros-from (savedOf m) 113 0x80
-      (λ a h k. front a (omega arith) ∙ hole-holds a (heldIn (m .regs) a) h (omega arith) (l .file .places a))
+      (λ a h k. front a (omega arith) ∙ hole-holds (m .released) a (heldIn (m .regs) a) h (omega arith) (l .file .places a))
 
   counts-saved : T (countsFit (byte (savedOf m) 258) (byte (savedOf m) 259) (byte (savedOf m) 261))
   unfolding countsFit restOf movingOf
@@ -383,15 +421,22 @@ module _ (m : Machine) (l : Legal m) where
       (le→leb 1 (m .t1 .prescaler) (c1 .prescaler-low))
       (le→leb (m .t1 .prescaler) 64 (c1 .prescaler-high)))
 
-  own-saved : T (ownFit (byte (savedOf m) 266) (byte (savedOf m) 264) (byte (savedOf m) 265) (byte (savedOf m) 267))
+  level-fits : (b : Bool) → T (leb (oneIf b) 1)
+  level-fits true = tt
+  level-fits false = tt
+
+  own-saved : T (ownFit (byte (savedOf m) 266) (byte (savedOf m) 264) (byte (savedOf m) 265))
   unfolding ownFit restOf
   own-saved =
-      rw (back 10, back 8, back 9, back 11)
-      (all-four (isCost (m .cost)) (leb (oneIf (m .tout)) 1) (isKind (m .kind)) true (l .cost) (level-fits (m .tout)) (l .kind) tt)
-    where
-      level-fits : (b : Bool) → T (leb (oneIf b) 1)
-      level-fits true = tt
-      level-fits false = tt
+      rw (back 10, back 8, back 9)
+      (all-three (isCost (m .cost)) (leb (oneIf (m .tout)) 1) (isKind (m .kind)) (l .cost) (level-fits (m .tout)) (l .kind))
+
+  mark-saved : T (markFits (byte (savedOf m) 267) (byte (savedOf m) 0xFA))
+  unfolding markFits restOf
+  mark-saved =
+      let irq = heldIn (m .regs) 0xFA in
+      rw (back 11, front 0xFA (lit< tt), mark-again (m .released))
+      (both (leb (oneIf (m .released)) 1) (m .released || eqb irq 0) (level-fits (m .released)) (irq-held (m .released) irq (l .file .places 0xFA) .1))
 
   bits-saved : T (bitsClear (byte (savedOf m) 0xF1) (byte (savedOf m) 0xFA) (byte (savedOf m) 0xFD))
   unfolding bitsClear mayHold
@@ -399,7 +444,7 @@ module _ (m : Machine) (l : Legal m) where
       let tmr = heldIn (m .regs) 0xF1 in
       let irq = heldIn (m .regs) 0xFA in
       let tmr-may : T (eqb (bitOf 0 tmr) 0 && eqb (bitOf 2 tmr) 0) = l .file .places 0xF1 in
-      let irq-may : T (eqb (bitOf 6 irq) 0 && eqb (bitOf 7 irq) 0) = l .file .places 0xFA in
+      let irq-may : T (eqb (bitOf 6 irq) 0 && eqb (bitOf 7 irq) 0) = irq-held (m .released) irq (l .file .places 0xFA) .0 in
       rw (front 0xF1 (lit< tt), front 0xFA (lit< tt), front 0xFD (lit< tt))
       (all-five
       (eqb (bitOf 0 tmr) 0)
@@ -426,14 +471,16 @@ module _ (m : Machine) (l : Legal m) where
   pub legal-saves : T (legalOf (savedOf m))
   unfolding legalOf
   legal-saves =
-      all-five
+      all-six
       (countsFit (byte (savedOf m) 258) (byte (savedOf m) 259) (byte (savedOf m) 261))
-      (ownFit (byte (savedOf m) 266) (byte (savedOf m) 264) (byte (savedOf m) 265) (byte (savedOf m) 267))
+      (ownFit (byte (savedOf m) 266) (byte (savedOf m) 264) (byte (savedOf m) 265))
+      (markFits (byte (savedOf m) 267) (byte (savedOf m) 0xFA))
       (holesEmpty (savedOf m))
       (bitsClear (byte (savedOf m) 0xF1) (byte (savedOf m) 0xFA) (byte (savedOf m) 0xFD))
       (portFits (portOf (savedOf m)) (byte (savedOf m) 275))
       counts-saved
       own-saved
+      mark-saved
       holes-saved
       bits-saved
       port-saved
@@ -455,7 +502,3 @@ machine-and-back m l =
     let long : eqb (length (savedOf m)) savedLength ≡ true = eq-eqb (length (savedOf m)) savedLength (saved-long m l) in
     let legal : legalOf (savedOf m) ≡ true = passed (legalOf (savedOf m)) (legal-saves m l) in
     (saved-long m l, rw (long, legal), rw (long, legal, loads-back m l))
-  where
-    passed : (b : Bool) → T b → b ≡ true
-    passed true t = refl
-    passed false t = absurd t

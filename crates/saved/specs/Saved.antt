@@ -1,12 +1,12 @@
--- A machine as 276 bytes, and which bytes are a machine (01 "Numbers the encoder sees"; 02, C-11).
-use mathlib.Core.Bool.{Bool, true, _&&_}
+-- A machine as 276 bytes, and which bytes are a machine (01 "Numbers the encoder sees"; 02, C-11 and C-13).
+use mathlib.Core.Bool.{Bool, true, _&&_, _||_}
 use mathlib.Core.List.{List, [], _∷_, _++_}
 use Prim.Native.Nat.{ℕ, zero, suc, _+_}
 use lib.Dec.{eqb, leb}
 use lib.ListN.{getD, length, take}
 use Rattle.numbers.specs.Numbers.{refusedMachine, refusedLength, fileLength, savedLength}
 use Rattle.word.specs.Choose.{pick, oneIf}
-use Rattle.word.specs.Fields.{bitOf, lower, wordOf, highByte, lowByte}
+use Rattle.word.specs.Fields.{bitOf, isSet, lower, wordOf, highByte, lowByte}
 use Rattle.serial.specs.Receiver.{receiverFits}
 use Rattle.serial.specs.Transmitter.{transmitterFits}
 use Rattle.serial.specs.declared.Port.{Port}
@@ -36,7 +36,7 @@ portOf s =
 
 -- "0 to 255 the register file in address order; 256 and 257 the program counter, high byte first; 258 the divider; 259 and 260 T0's
 -- prescaler and counter; 261 and 262 T1's; 263 the last Port 3 pins; 264 the T_OUT level; 265 the type (1 or 11); 266 the interrupt
--- entry cost; 267 zero." And the serial port, with 275 zero.
+-- entry cost; 267" in its bit 0 whether an EI has been executed (02, C-13). And the serial port, with 275 zero.
 unfoldable pub machineOf : List ℕ → Machine
 machineOf s =
     record {
@@ -49,6 +49,7 @@ machineOf s =
       tout = eqb (byte s 264) 1;
       kind = byte s 265;
       cost = byte s 266;
+      released = isSet 0 (byte s 267);
       port = portOf s;
     }
 
@@ -66,7 +67,7 @@ restOf m =
     ∷ oneIf (m .tout)
     ∷ m .kind
     ∷ m .cost
-    ∷ 0
+    ∷ oneIf (m .released)
     ∷ m .port .receiver .received
     ∷ m .port .receiver .shift
     ∷ m .port .receiver .awaited
@@ -84,9 +85,13 @@ savedOf m = m .regs ++ restOf m
 unfoldable pub countsFit : ℕ → ℕ → ℕ → Bool
 countsFit divider prescaler0 prescaler1 = leb divider 3 && leb 1 prescaler0 && leb prescaler0 64 && leb 1 prescaler1 && leb prescaler1 64
 
--- "entry cost 6 to 63; T_OUT 0 or 1; type 1 or 11; byte 267 zero;"
-unfoldable pub ownFit : ℕ → ℕ → ℕ → ℕ → Bool
-ownFit cost tout kind spare = isCost cost && leb tout 1 && isKind kind && eqb spare 0
+-- "entry cost 6 to 63; T_OUT 0 or 1; type 1 or 11;"
+unfoldable pub ownFit : ℕ → ℕ → ℕ → Bool
+ownFit cost tout kind = isCost cost && leb tout 1 && isKind kind
+
+-- byte 267: "whether EI has been executed, in bit 0", and the other bits zero; "a legal machine that hasn't has IRQ zero" (02, C-13)
+unfoldable pub markFits : ℕ → ℕ → Bool
+markFits bits irq = leb bits 1 && (isSet 0 bits || eqb irq 0)
 
 -- "places 80 to EF and F0 (hexadecimal) zero;" (113 places from 80)
 abbrev pub zeros : List ℕ → ℕ → ℕ → Bool
@@ -107,7 +112,8 @@ portFits p spare = receiverFits (p .receiver) && transmitterFits (p .transmitter
 unfoldable pub legalOf : List ℕ → Bool
 legalOf s =
     countsFit (byte s 258) (byte s 259) (byte s 261)
-    && ownFit (byte s 266) (byte s 264) (byte s 265) (byte s 267)
+    && ownFit (byte s 266) (byte s 264) (byte s 265)
+    && markFits (byte s 267) (byte s IRQ)
     && holesEmpty s
     && bitsClear (byte s TMR) (byte s IRQ) (byte s RP)
     && portFits (portOf s) (byte s 275)

@@ -1,10 +1,10 @@
-// A machine as 276 bytes, and back (01 "Numbers the encoder sees"; 02, C-11).
+// A machine as 276 bytes, and back (01 "Numbers the encoder sees"; 02, C-11 and C-13).
 ghost use mathlib.Core.Path.{_≡_};
 ghost use lib.ListN.{length, take};
 ghost use Rattle.numbers.specs.Numbers.{fileLength, savedLength};
 ghost use Rattle.word.specs.Fields.{lowByte};
 ghost use Rattle.machine.specs.Legal.{Legal};
-ghost use Rattle.saved.specs.Saved.{timerOf, portOf, portFits, restOf, machineOf, savedOf, countsFit, ownFit, holesEmpty, bitsClear, legalOf, lengthRefusal, refusalOf};
+ghost use Rattle.saved.specs.Saved.{timerOf, portOf, portFits, restOf, machineOf, savedOf, countsFit, ownFit, markFits, holesEmpty, bitsClear, legalOf, lengthRefusal, refusalOf};
 ghost use Rattle.saved.specs.ForCode.{loadOf};
 use machine::File;
 use machine::Machine;
@@ -91,6 +91,7 @@ fn machine_of(saved: &[u8]) -> Machine
     let divider = wide(saved[258]);
     let t0 = timer_of(saved[259], saved[260]);
     let t1 = timer_of(saved[261], saved[262]);
+    let released = word::is_set(0, saved[267]);
     let port = port_of(saved);
     Machine {
         regs,
@@ -102,6 +103,7 @@ fn machine_of(saved: &[u8]) -> Machine
         tout: saved[264] == 1,
         kind: saved[265],
         cost: saved[266],
+        released,
         port,
     }
 }
@@ -113,13 +115,21 @@ fn counts_fit(divider: u8, prescaler0: u8, prescaler1: u8) -> bool
     (divider <= 3) & (1 <= prescaler0) & (prescaler0 <= 64) & (1 <= prescaler1) & (prescaler1 <= 64)
 }
 
-// "entry cost 6 to 63; T_OUT 0 or 1; type 1 or 11; byte 267 zero"
-fn own_fit(cost: u8, tout: u8, kind: u8, spare: u8) -> bool
-    ensures { λ r. ⌜ r ≡ ownFit cost tout kind spare ⌝ }
+// "entry cost 6 to 63; T_OUT 0 or 1; type 1 or 11"
+fn own_fit(cost: u8, tout: u8, kind: u8) -> bool
+    ensures { λ r. ⌜ r ≡ ownFit cost tout kind ⌝ }
 {
     let payable = machine::start::is_cost(wide(cost));
     let known = machine::start::is_kind(wide(kind));
-    payable & (tout <= 1) & known & (spare == 0)
+    payable & (tout <= 1) & known
+}
+
+// Byte 267: no bit but bit 0, and where that is clear, IRQ zero.
+fn mark_fits(bits: u8, irq: u8) -> bool
+    ensures { λ r. ⌜ r ≡ markFits bits irq ⌝ }
+{
+    let released = word::is_set(0, bits);
+    (bits <= 1) & (released | (irq == 0))
 }
 
 // "places 80 to EF and F0 (hexadecimal) zero"
@@ -169,7 +179,8 @@ fn is_legal(saved: &[u8]) -> bool
     ensures { λ r. ⌜ r ≡ legalOf (now (saved .entry)) ⌝ }
 {
     let counts = counts_fit(saved[258], saved[259], saved[261]);
-    let own = own_fit(saved[266], saved[264], saved[265], saved[267]);
+    let own = own_fit(saved[266], saved[264], saved[265]);
+    let mark = mark_fits(saved[267], saved[names::IRQ as usize]);
     let holes = holes_empty(saved);
     let bits = bits_clear(
         saved[names::TMR as usize],
@@ -178,7 +189,7 @@ fn is_legal(saved: &[u8]) -> bool
     );
     let port = port_of(saved);
     let serial = port_fits(port, saved[275]);
-    counts & own & holes & bits & serial
+    counts & own & mark & holes & bits & serial
 }
 
 // 7 where these aren't as many bytes as a saved machine has, or else 0.
@@ -247,6 +258,7 @@ fn rest_of(m: Machine) -> [u8; 20]
     let prescaler1 = low(t1.prescaler);
     let counter1 = low(t1.counter);
     let tout = word::bits_if(m.tout, 1);
+    let released = word::bits_if(m.released, 1);
     [
         pc_high,
         pc_low,
@@ -259,7 +271,7 @@ fn rest_of(m: Machine) -> [u8; 20]
         tout,
         m.kind,
         m.cost,
-        0,
+        released,
         receiver.received,
         receiver.shift,
         receiver.awaited,

@@ -24,11 +24,20 @@ shared-slice-read-own-fit-2 c = search needs
 shared-slice-read-own-fit-3 : tie.Need-shared-slice-read-own-fit-3
 shared-slice-read-own-fit-3 c = search needs
 
-shared-slice-read-own-fit-4 : tie.Need-shared-slice-read-own-fit-4
-shared-slice-read-own-fit-4 c = search needs
-
 own-fit-requires : tie.Need-own-fit-requires
 own-fit-requires c κs = search needs
+
+shared-slice-read-mark-fits : tie.Need-shared-slice-read-mark-fits
+shared-slice-read-mark-fits c = search needs
+
+cast-mark-fits : tie.Need-cast-mark-fits
+cast-mark-fits c = search needs
+
+shared-slice-read-mark-fits-2 : tie.Need-shared-slice-read-mark-fits-2
+shared-slice-read-mark-fits-2 c = search needs
+
+mark-fits-requires : tie.Need-mark-fits-requires
+mark-fits-requires c κs = search needs
 
 holes-empty-requires : tie.Need-holes-empty-requires
 holes-empty-requires c κs = search needs
@@ -69,9 +78,10 @@ returns c =
     let port : tie.After-port-of = c .before .before in
     let bits : tie.After-bits-clear = port .before in
     let holes : tie.After-holes-empty = bits .before .before .before .before in
-    let own : tie.After-own-fit = holes .before in
-    let counts : tie.After-counts-fit = own .before .before .before .before .before in
-    rw (c .port-fits .ensures, port .port-of .ensures, bits .bits-clear .ensures, holes .holes-empty .ensures, own .own-fit .ensures, counts .counts-fit .ensures)
+    let mark : tie.After-mark-fits = holes .before in
+    let own : tie.After-own-fit = mark .before .before .before in
+    let counts : tie.After-counts-fit = own .before .before .before .before in
+    rw (c .port-fits .ensures, port .port-of .ensures, bits .bits-clear .ensures, holes .holes-empty .ensures, mark .mark-fits .ensures, own .own-fit .ensures, counts .counts-fit .ensures)
 
 pub is-legal-spec : {M : Type 1} → statement M
 is-legal-spec =
@@ -84,8 +94,11 @@ is-legal-spec =
     shared-slice-read-own-fit
     shared-slice-read-own-fit-2
     shared-slice-read-own-fit-3
-    shared-slice-read-own-fit-4
     own-fit-requires
+    shared-slice-read-mark-fits
+    cast-mark-fits
+    shared-slice-read-mark-fits-2
+    mark-fits-requires
     holes-empty-requires
     cast-bits-clear
     shared-slice-read-bits-clear

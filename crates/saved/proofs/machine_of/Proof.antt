@@ -39,31 +39,38 @@ shared-slice-read-timer-of-4 c = search needs
 timer-of-requires-2 : tie.Need-timer-of-requires-2
 timer-of-requires-2 c κs = search needs
 
+shared-slice-read-is-set : tie.Need-shared-slice-read-is-set
+shared-slice-read-is-set c = search needs
+
+is-set-requires : tie.Need-is-set-requires
+is-set-requires c κs = search needs
+
 port-of-requires : tie.Need-port-of-requires
 port-of-requires c κs = search needs
 
-shared-slice-read-t11 : tie.Need-shared-slice-read-t11
-shared-slice-read-t11 c = search needs
+shared-slice-read-t10 : tie.Need-shared-slice-read-t10
+shared-slice-read-t10 c = search needs
 
-shared-slice-read-t9 : tie.Need-shared-slice-read-t9
-shared-slice-read-t9 c = search needs
-
-shared-slice-read-t21 : tie.Need-shared-slice-read-t21
-shared-slice-read-t21 c = search needs
+shared-slice-read-t12 : tie.Need-shared-slice-read-t12
+shared-slice-read-t12 c = search needs
 
 shared-slice-read-t23 : tie.Need-shared-slice-read-t23
 shared-slice-read-t23 c = search needs
+
+shared-slice-read-t25 : tie.Need-shared-slice-read-t25
+shared-slice-read-t25 c = search needs
 
 returns : tie.Need-returns
 unfolding machineOf
 returns c =
     let port : tie.After-port-of = c .before .before .before .before in
-    let t1 : tie.After-timer-of2 = port .before in
+    let mark : tie.After-is-set = port .before in
+    let t1 : tie.After-timer-of2 = mark .before .before in
     let t0 : tie.After-timer-of = t1 .before .before .before in
     let divider : tie.After-wide = t0 .before .before .before in
     let pc : tie.After-word = divider .before .before in
     let file : tie.After-file-of = pc .before .before .before in
-    rw (port .port-of .ensures, t1 .timer-of2 .ensures, t0 .timer-of .ensures, divider .wide .ensures, pc .word .ensures, file .file-of .ensures)
+    rw (port .port-of .ensures, mark .is-set .ensures, t1 .timer-of2 .ensures, t0 .timer-of .ensures, divider .wide .ensures, pc .word .ensures, file .file-of .ensures)
 
 pub machine-of-spec : {M : Type 1} → statement M
 machine-of-spec =
@@ -81,9 +88,11 @@ machine-of-spec =
     shared-slice-read-timer-of-3
     shared-slice-read-timer-of-4
     timer-of-requires-2
+    shared-slice-read-is-set
+    is-set-requires
     port-of-requires
-    shared-slice-read-t11
-    shared-slice-read-t9
-    shared-slice-read-t21
+    shared-slice-read-t10
+    shared-slice-read-t12
     shared-slice-read-t23
+    shared-slice-read-t25
     returns)

@@ -27,17 +27,21 @@ low-requires-5 c κs = search needs
 bits-if-requires : tie.Need-bits-if-requires
 bits-if-requires c κs = search needs
 
+bits-if-requires-2 : tie.Need-bits-if-requires-2
+bits-if-requires-2 c κs = search needs
+
 returns : tie.Need-returns
 unfolding restOf
 returns c =
-    let counter1 : tie.After-low5 = c .before in
+    let tout : tie.After-bits-if = c .before in
+    let counter1 : tie.After-low5 = tout .before in
     let prescaler1 : tie.After-low4 = counter1 .before in
     let counter0 : tie.After-low3 = prescaler1 .before in
     let prescaler0 : tie.After-low2 = counter0 .before in
     let divider : tie.After-low = prescaler0 .before in
     let pc-low : tie.After-low-byte = divider .before in
     let pc-high : tie.After-high-byte = pc-low .before in
-    simp (c .bits-if .ensures .0, counter1 .low5 .ensures, prescaler1 .low4 .ensures, counter0 .low3 .ensures, prescaler0 .low2 .ensures, divider .low .ensures, pc-low .low-byte .ensures, pc-high .high-byte .ensures)
+    simp (c .bits-if2 .ensures .0, tout .bits-if .ensures .0, counter1 .low5 .ensures, prescaler1 .low4 .ensures, counter0 .low3 .ensures, prescaler0 .low2 .ensures, divider .low .ensures, pc-low .low-byte .ensures, pc-high .high-byte .ensures)
 
 pub rest-of-spec : {M : Type 1} → statement M
 rest-of-spec =
@@ -51,4 +55,5 @@ rest-of-spec =
     low-requires-4
     low-requires-5
     bits-if-requires
+    bits-if-requires-2
     returns)
