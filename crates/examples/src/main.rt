@@ -114,9 +114,10 @@ fn jump() {
     instruction(b"8B FE at 0010", 0, 0, &image, 0x10);
 }
 
-// IPR 08, IMR BF, IRQ 3F, with 1234 at 000A.
+// IPR 08, IMR BF, IRQ 3F, with 1234 at 000A, on a machine that has executed EI: bit 0 of byte 267 (02, C-13).
 fn grant() {
     let mut s = fresh(0, 0, 0);
+    s[267] = 1;
     s[IPR] = 0x08;
     s[IMR] = 0xBF;
     s[IRQ] = 0x3F;

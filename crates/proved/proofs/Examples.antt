@@ -14,7 +14,7 @@ use Rattle.alu.specs.Rotate.{rlOf, sraOf, rotateFlags}
 use Rattle.alu.specs.Decimal.{daOf, byRows, adjustedBy, afterAddition, afterSubtraction}
 use Rattle.alu.specs.Conditions.{holdsOf}
 use Rattle.word.specs.Iter.{iter}
-use Rattle.timers.specs.Requests.{latch, latchedIf}
+use Rattle.timers.specs.Requests.{latch, latchedIf, requestsFit}
 use Rattle.timers.specs.Control.{orHighest, setupOf, dividerMovesT1, edgesMoveT1, modeOf, settingOf, kept}
 use Rattle.timers.specs.Timer.{tick, ticked, timerWritten}
 use Rattle.timers.specs.Clock.{endOf, end0Of, tickBoth, cycle, cycles, toutWritten, written, T0, Steady, LegalMoving}
@@ -23,9 +23,9 @@ use Rattle.opcodes.specs.Map.{entryOf, opcodeMap}
 use Rattle.opcodes.specs.Instruction.{lengthOf}
 use Rattle.opcodes.specs.Cycles.{cyclesOf, cycleMap}
 use Rattle.machine.specs.Names.{TMR}
-use Rattle.machine.specs.State.{heldIn, placedIn, held, placed, withPc, withLast3, withPort}
+use Rattle.machine.specs.State.{heldIn, placedIn, held, placed, withPc, withLast3, withReleased, withPort}
 use Rattle.machine.specs.Serial.{portMode}
-use Rattle.machine.specs.Registers.{readReg, writeReg}
+use Rattle.machine.specs.Registers.{readReg, writeIrq, writeReg}
 use Rattle.machine.specs.Addresses.{workingAt, registerAt, readPair, writePair}
 use Rattle.machine.specs.Memory.{programByte}
 use Rattle.machine.specs.Stack.{pushed, pushedInternal}
@@ -36,8 +36,8 @@ use Rattle.machine.proofs.Lens.{span-is}
 use Rattle.machine.proofs.Legal.{resting-legal}
 use Rattle.deeds.specs.Modes.{oneAt, operandsOf}
 use Rattle.deeds.specs.Results.{binaryOf, unaryOf, pairedOf}
-use Rattle.deeds.specs.Pages.{binaryDeed, unaryDeed, adjustDeed, daDeed, pairedDeed, djnzDeed, jrDeed, deedOf, outcomeOf}
-use Rattle.execute.specs.Doing.{flagged, storedAt, wordStoredAt, jumped, looped, interruptsTo, doneOf}
+use Rattle.deeds.specs.Pages.{binaryDeed, unaryDeed, ldDeed, adjustDeed, daDeed, pairedDeed, djnzDeed, jrDeed, deedOf, outcomeOf}
+use Rattle.execute.specs.Doing.{flagged, storedAt, wordStoredAt, transferred, jumped, looped, interruptsTo, interruptsEnabled, doneOf}
 use Rattle.execute.specs.Execute.{codeAt, performOf, executeAs, executeOf}
 use Rattle.interrupts.specs.Edges.{fell, latchedBy, startedBy, movedByEdges, comparedOf}
 use Rattle.interrupts.specs.Grants.{groupA, groupB, groupC, ordered, priorities, firstStanding, granted, grantOf}
@@ -69,11 +69,11 @@ unfolding examples
     iter latch orHighest setupOf dividerMovesT1 edgesMoveT1 modeOf settingOf kept tick ticked timerWritten endOf end0Of tickBoth cycle cycles
     toutWritten written
     entryOf opcodeMap lengthOf cyclesOf cycleMap
-    heldIn placedIn placed withPc withLast3 resetPlaces newOf defaultOf readReg writeReg workingAt registerAt readPair writePair
+    heldIn placedIn placed withPc withLast3 resetPlaces newOf defaultOf readReg writeReg writeIrq workingAt registerAt readPair writePair
     programByte pushed pushedInternal
-    controlWith controlOf movingOf enabling countsAt withPort movedTo writeTmr seen shown cycleOf spanOf
-    oneAt operandsOf binaryOf unaryOf pairedOf binaryDeed unaryDeed adjustDeed daDeed pairedDeed djnzDeed jrDeed deedOf outcomeOf
-    flagged storedAt wordStoredAt jumped looped interruptsTo doneOf codeAt performOf executeAs executeOf
+    controlWith controlOf movingOf enabling countsAt withReleased withPort movedTo writeTmr seen shown cycleOf spanOf
+    oneAt operandsOf binaryOf unaryOf pairedOf binaryDeed unaryDeed ldDeed adjustDeed daDeed pairedDeed djnzDeed jrDeed deedOf outcomeOf
+    flagged storedAt wordStoredAt transferred jumped looped interruptsTo interruptsEnabled doneOf codeAt performOf executeAs executeOf
     fell latchedIf latchedBy portMode startedBy movedByEdges comparedOf groupA groupB groupC ordered priorities firstStanding granted grantOf
     cleared vectorOf acknowledged enteredOf grantedOr actOn actionOf clockedOn stepOf
 examples-hold =
@@ -91,8 +91,8 @@ module _ (divider : ℕ) (low : divider < 4) where
   quickest = freshLoad divider 0x05 0x01
 
   legal : LegalMoving (movingOf quickest)
-  unfolding movingOf writeTmr countsAt written timerWritten kept controlWith heldIn placed placedIn resetPlaces newOf defaultOf orHighest setupOf settingOf
-  legal = record { divider-high = low; counting0 = omega arith; counting1 = omega arith; irq-high = omega arith; port-legal = resting-legal }
+  unfolding movingOf writeTmr countsAt written timerWritten kept controlWith heldIn placed placedIn resetPlaces newOf defaultOf orHighest setupOf settingOf requestsFit
+  legal = record { divider-high = low; counting0 = omega arith; counting1 = omega arith; requests-fit = tt; port-legal = resting-legal }
 
   steady : Steady (settingOf (controlOf quickest) .t0) (movingOf quickest .t0)
   unfolding movingOf controlOf writeTmr countsAt written timerWritten kept controlWith heldIn placed placedIn resetPlaces newOf defaultOf orHighest setupOf settingOf

@@ -1,4 +1,4 @@
--- 01's proved examples, one list: each is a test on the definitions, from the bytes of an instruction, a step or a span of a machine to
+-- 01's proved examples, as 02 corrects them, one list: each is a test on the definitions, from the bytes of an instruction, a step or a span of a machine to
 -- what is left.
 use Prim.Native.Nat.{ℕ}
 use mathlib.Core.Bool.{Bool, true, false, _&&_}
@@ -39,9 +39,13 @@ djnz v left cycles =
     let x = executed (0x5A ∷ 0x10 ∷ []) (machineAt 0x0000 v) in
     eqb (held (x .machine) 0x05) left && eqb (x .cycles) cycles
 
--- a new machine with these bytes in IPR, IMR and IRQ; and its step, of a program of NOPs whose vector at 000A, alone, holds 1234
+-- a machine that has executed EI (02, C-13), at 0001
+abbrev pub released : Machine
+released = executed (0x9F ∷ []) (machineAt 0x0000 0) .machine
+
+-- the same with these bytes in IPR, IMR and IRQ; and its step, of a program of NOPs whose vector at 000A, alone, holds 1234
 abbrev pub requesting : ℕ → ℕ → ℕ → Machine
-requesting ipr imr irq = placed (placed (placed defaultOf IPR ipr) IMR imr) IRQ irq
+requesting ipr imr irq = placed (placed (placed released IPR ipr) IMR imr) IRQ irq
 
 abbrev pub stepped : Machine → Progress
 stepped m = stepOf pins (replicate 10 0xFF ++ (0x12 ∷ 0x34 ∷ replicate 4 0xFF)) [] m
@@ -88,8 +92,11 @@ examples =
     ∷ djnz 0 0xFF 12
     -- bytes 8B FE at 0010 jump to 0010
     ∷ eqb (executed (replicate 16 0xFF ++ (0x8B ∷ 0xFE ∷ [])) (machineAt 0x0010 0) .machine .pc) 0x0010
-    -- IPR 08, IMR BF, IRQ 3F takes vector 000A
+    -- IPR 08, IMR BF, IRQ 3F takes vector 000A, on a machine that has executed EI
     ∷ eqb (stepped (requesting 0x08 0xBF 0x3F) .machine .pc) 0x1234
+    -- 02, C-13: a store to FA before EI is dropped, and after it stays: LD %FA,#%3F
+    ∷ eqb (held (executed (0xE6 ∷ 0xFA ∷ 0x3F ∷ []) (machineAt 0x0000 0) .machine) IRQ) 0x00
+    ∷ eqb (held (executed (0x9F ∷ 0xE6 ∷ 0xFA ∷ 0x3F ∷ []) released .machine) IRQ) 0x3F
     -- P 3, N 2, fresh load, divider 0: 23 cycles no end, 24 one, 48 two
     ∷ eqb (endsIn 0 0x0D 0x02 23) 0
     ∷ eqb (endsIn 0 0x0D 0x02 24) 1
