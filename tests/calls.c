@@ -1372,8 +1372,9 @@ static void fresh_timer(uint8_t *m, enum timer timer, unsigned p, unsigned n)
     m[TMR] |= timer == TIMER_0 ? 0x02 : 0x08;
 }
 
-/* With the serial port off, and on, where "T0's ends latch no request 4" and "are counted [...] as ever"; before
-   the first EI, where "timer ends latch nothing" and "Ends are counted [...] as before" (02, C-13), and after. */
+/* With the serial port off, and on, where "T0's ends latch no request 4" and "are counted [...] as ever";
+   before the first EI, where "timer ends latch nothing" and "Ends are counted [...] as before" (02, C-13), and
+   after. */
 static void check_ends_of(enum timer timer, int on, int held, unsigned p, unsigned n, unsigned divider,
                           uint32_t span, uint32_t ends, const char *what)
 {

@@ -10,7 +10,7 @@ static const char *const control_names[16] = {
     "P01M", "IPR", "IRQ",      "IMR",  "FLAGS",    "RP",   "SPH", "SPL",
 };
 
-/* 01, "Numbers the encoder sees": bytes 256 to 267, the last by 02 (C-13); z8-requests.h: bytes 268 to 275. */
+/* 01, "Numbers the encoder sees", and 02, C-13: bytes 256 to 267; z8-requests.h: bytes 268 to 275. */
 static const char *const other_names[20] = {
     "PC high",         "PC low",
     "divider",         "T0 prescaler",

@@ -244,7 +244,7 @@ static void check_loop(unsigned byte, unsigned p3m)
     check(REQUEST_3 | REQUEST_4, g.saved[IRQ], "both requests");
 }
 
-/* The same before the first EI. C-13: "nothing from the serial port" is latched, "the port moves as before". */
+/* The same before the first EI. C-13: "nothing from the serial port" latches, "the port moves as before". */
 static void check_loop_before_ei(unsigned byte, unsigned p3m)
 {
     unsigned received = p3m & PARITY ? byte % 128 : byte;
@@ -1087,7 +1087,7 @@ static void check_left_before_ei(const struct outcome *o)
     check(0, o->answer, "a span before EI");
     check(0, memcmp(o->saved, g.saved, IRQ) != 0, "registers up to IRQ as after EI");
     check(0, o->saved[IRQ], "no request");
-    check(0, memcmp(o->saved + IMR, g.saved + IMR, Z8_AT_DIVIDER - IMR) != 0, "registers from IMR on as after EI");
+    check(0, memcmp(o->saved + IMR, g.saved + IMR, Z8_AT_DIVIDER - IMR) != 0, "those after it as after EI");
     check(0, o->saved[Z8_AT_BITS], "no EI");
     check(0, memcmp(o->saved + Z8_AT_RECEIVED, g.saved + Z8_AT_RECEIVED, 8) != 0, "the port as after EI");
 }
