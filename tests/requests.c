@@ -364,7 +364,7 @@ static void check_whether_an_ei(unsigned long number, const uint8_t bytes[3], un
 }
 
 /* Every byte stored to IMR, by LD and by OR; then edges and ends, which are not latched though bit 7 of IMR
-   and every mask bit be set. */
+   and every mask bit be set; and then EI, which releases whatever IMR was. */
 static void check_stores_to_imr(void)
 {
     unsigned byte;
@@ -381,6 +381,10 @@ static void check_stores_to_imr(void)
         check(1, ends0, "T0 ends");
         check_held("and nothing is latched");
         check(SIX, expected.cycles, "nor granted");
+        single(EI, 0xF0);
+        check(Z8_EI_EXECUTED, g.saved[Z8_AT_BITS], "EI releases");
+        check(byte | MASTER, g.saved[IMR], "and sets bit 7 of IMR alone");
+        check(0, g.saved[IRQ], "and nothing comes after it that came before");
     }
 }
 
