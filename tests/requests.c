@@ -106,6 +106,16 @@ static void span(uint32_t cycles)
     take_over();
 }
 
+/* From 0000. */
+static void run(uint32_t budget, unsigned pins3)
+{
+    g.saved[Z8_AT_PC] = g.saved[Z8_AT_PC + 1] = 0;
+    g.amount = budget;
+    g.pins[3] = (uint8_t)pins3;
+    note(agree(&g, run_of_reference, run_of_library, 0, &expected));
+    take_over();
+}
+
 static void reset(void)
 {
     note(agree(&g, reset_of_reference, reset_of_library, 0, &expected));
@@ -228,25 +238,47 @@ static void next_end_after(enum timer timer, uint32_t cycles, unsigned repeats)
     g.saved[prescaler_at + 1] = 1;
 }
 
-/* EI is the instruction after so many NOPs, and the end comes at that cycle: it is latched where EI has been
+/* EI was the instruction after so many NOPs, and the end came at that cycle: it is latched where EI had been
    executed by then. C-13: "ends in its own six cycles come after it and latch". */
-static void check_end_about_ei(enum timer timer, unsigned nops, unsigned cycle, unsigned repeats)
+static void check_one_end(enum timer timer, unsigned nops, unsigned cycle, unsigned repeats)
 {
     const unsigned request = timer == TIMER_0 ? REQUEST_4 : REQUEST_5;
+
+    check(1, timer == TIMER_0 ? ends0 : ends1, "one end of that timer");
+    check(1, ends0 + ends1, "and none of the other");
+    check(0, g.saved[Z8_AT_T_OUT], "T_OUT flips");
+    check(repeats, (g.saved[TMR] & 0x0A) != 0, "a single pass stops");
+    check(Z8_EI_EXECUTED, g.saved[Z8_AT_BITS], "EI was executed");
+    check(cycle > nops * SIX ? request : 0, g.saved[IRQ], "the request");
+}
+
+enum { INSTRUCTIONS = 8 };
+
+/* Step by step. */
+static void check_end_about_ei(enum timer timer, unsigned nops, unsigned cycle, unsigned repeats)
+{
     unsigned done;
 
     begin("an end about EI", ((unsigned)timer * 10ul + nops) * 1000 + cycle * 10 + repeats);
     next_end_after(timer, cycle, repeats);
-    for (done = 0; done < 8; done++) {
+    for (done = 0; done < INSTRUCTIONS; done++) {
         uint32_t before = ends0 + ends1;
 
         single(done == nops ? EI : NOP, 0xFF);
         check(done * SIX < cycle && cycle <= (done + 1) * SIX, ends0 + ends1 - before, "the end in time");
     }
-    check(1, timer == TIMER_0 ? ends0 : ends1, "one end of that timer");
-    check(0, g.saved[Z8_AT_T_OUT], "T_OUT flips");
-    check(repeats, (g.saved[TMR] & 0x0A) != 0, "a single pass stops");
-    check(cycle > nops * SIX ? request : 0, g.saved[IRQ], "the request");
+    check_one_end(timer, nops, cycle, repeats);
+}
+
+/* In one run, whose first step finds edges of all lines, before EI or in its own step. */
+static void check_end_in_a_run(enum timer timer, unsigned nops, unsigned cycle, unsigned repeats)
+{
+    begin("a run with an end about EI", ((unsigned)timer * 10ul + nops) * 1000 + cycle * 10 + repeats);
+    next_end_after(timer, cycle, repeats);
+    image[nops] = EI;
+    run(INSTRUCTIONS * SIX, 0xF0);
+    check(INSTRUCTIONS * SIX, expected.cycles, "the run's cycles");
+    check_one_end(timer, nops, cycle, repeats);
 }
 
 static void check_all_ends(void)
@@ -254,10 +286,11 @@ static void check_all_ends(void)
     unsigned timer, nops, cycle, repeats;
 
     for (timer = TIMER_0; timer <= TIMER_1; timer++) {
-        for (nops = 0; nops < 7; nops++) {
-            for (cycle = 1; cycle <= 8 * SIX; cycle++) {
+        for (nops = 0; nops < INSTRUCTIONS; nops++) {
+            for (cycle = 1; cycle <= INSTRUCTIONS * SIX; cycle++) {
                 for (repeats = 0; repeats < 2; repeats++) {
                     check_end_about_ei((enum timer)timer, nops, cycle, repeats);
+                    check_end_in_a_run((enum timer)timer, nops, cycle, repeats);
                 }
             }
         }
@@ -614,11 +647,7 @@ static void check_run(const uint8_t *program, size_t length, unsigned answer, un
     begin(call, 0);
     g.image = program;
     g.image_length = length;
-    g.saved[Z8_AT_PC + 1] = 0;
-    g.amount = 4 * SIX;
-    g.pins[3] = 0xF0;
-    note(agree(&g, run_of_reference, run_of_library, 0, &expected));
-    take_over();
+    run(4 * SIX, 0xF0);
     check(answer, expected.answer, "its answer");
     check(bits, g.saved[Z8_AT_BITS], "whether EI was executed");
     check(0, g.saved[IRQ], "the edges came before it");
