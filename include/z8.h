@@ -29,10 +29,10 @@
 extern "C" {
 #endif
 
-#define Z8_VERSION_MAJOR 2
+#define Z8_VERSION_MAJOR 3
 #define Z8_VERSION_MINOR 0
 #define Z8_VERSION_PATCH 0
-#define Z8_VERSION "2.0.0"
+#define Z8_VERSION "3.0.0"
 #define Z8_VERSION_NUMBER (65536u * Z8_VERSION_MAJOR + 256u * Z8_VERSION_MINOR + Z8_VERSION_PATCH)
 
 /* The library's own version: 65,536 x MAJOR + 256 x MINOR + PATCH. It is Z8_VERSION_NUMBER where library and header belong together. */
@@ -67,14 +67,19 @@ uint32_t z8_version(void);
 /* ---- The saved machine ----
 
    It is legal, and no call answers Z8_REFUSED_MACHINE to it, exactly where each byte is within what is said beside it, places 80 to EF
-   and F0 (hexadecimal) of the register file are zero, and so are bits 0 and 2 of TMR (F1), bits 6 and 7 of IRQ (FA) and bits 0 to 3 of
-   RP (FD). Every machine that a call writes is legal.
+   and F0 (hexadecimal) of the register file are zero, and so are bits 0 and 2 of TMR (F1), bits 6 and 7 of IRQ (FA), bits 0 to 3 of
+   RP (FD), and all of IRQ where Z8_EI_EXECUTED is clear. Every machine that a call writes is legal.
 
    Writing into these bytes is no register store. To start T0 by hand, say, set its start value (Z8_T0) and Z8_PRE0, its prescaler and
-   counter, and its enable bit, bit 1 of Z8_TMR.
+   counter, and its enable bit, bit 1 of Z8_TMR; and Z8_EI_EXECUTED, if its ends are to be requests before the program executes EI.
 
-   Before version 2 a saved machine had 268 bytes. A kept one is carried over by appending 00 FF 00 00 FF 00 00 00 (hexadecimal): nothing
-   received, and nothing under way. Its serial port is on where bit 6 of P3M is set, which did nothing then. */
+   A kept machine is carried over so:
+
+     - from before version 3: byte 267 was always 0, which now says that EI has not been executed. If you know that it had been, since the
+       machine was made or last reset, set Z8_EI_EXECUTED. Without it a machine whose IRQ is not zero is refused with 6, and one whose IRQ
+       is zero goes on, but with its requests held until its next EI.
+     - from before version 2, when it had 268 bytes: append 00 FF 00 00 FF 00 00 00 (hexadecimal), too: nothing received, and nothing under
+       way. Its serial port is on where bit 6 of P3M is set, which did nothing then. */
 
 #define Z8_SAVED_LEN 276u
 
@@ -89,7 +94,7 @@ uint32_t z8_version(void);
 #define Z8_AT_T_OUT 264u           /* the T_OUT level: 0 or 1 */
 #define Z8_AT_TYPE 265u            /* Z8_TYPE_Z8601 or Z8_TYPE_Z8611 */
 #define Z8_AT_ENTRY_COST 266u      /* cycles of an interrupt's entry: 6 to 63 */
-#define Z8_AT_ZERO 267u            /* 0 */
+#define Z8_AT_BITS 267u            /* bit 0: Z8_EI_EXECUTED; the others 0 */
 #define Z8_AT_RECEIVED 268u        /* the received byte, which F0 reads while the serial port is on */
 #define Z8_AT_RECEIVER_SHIFT 269u  /* the receiver's shift register: FF where the next byte is 0 or 1 */
 #define Z8_AT_RECEIVER_AWAITS 270u /* 0 a start bit; 1 the start bit's middle; 2 to 9 the middle of bit 0 to 7 */
@@ -99,6 +104,11 @@ uint32_t z8_version(void);
 #define Z8_AT_SENDER_PLACE 273u    /* what is on P37: 0 nothing, so high; 1 the start bit; 2 to 9 bit 0 to 7; 10 and 11 the stop bits */
 #define Z8_AT_SENDER_ENDS 274u     /* T0's ends since that began: 0 where the byte before is 0, else 0 to 15 */
 #define Z8_AT_PORT_ZERO 275u       /* 0 */
+
+/* Of the byte at Z8_AT_BITS: set once EI has been executed since the machine was made or last reset. While it is clear, requests are held:
+   see "Time" below. */
+
+#define Z8_EI_EXECUTED 0x01u
 
 /* The control registers' addresses, by the data sheet's names: TMR, say, is machine[Z8_AT_REGISTERS + Z8_TMR]. */
 
@@ -112,7 +122,7 @@ uint32_t z8_version(void);
 #define Z8_P3M 0xF7u   /* Port 3 mode: bit 6 set, the serial port is on; bit 7 set, with odd parity; its other bits do nothing */
 #define Z8_P01M 0xF8u  /* Ports 0 and 1 mode */
 #define Z8_IPR 0xF9u   /* interrupt priority */
-#define Z8_IRQ 0xFAu   /* interrupt request */
+#define Z8_IRQ 0xFAu   /* interrupt request: zero until the first EI */
 #define Z8_IMR 0xFBu   /* interrupt mask */
 #define Z8_FLAGS 0xFCu /* flags */
 #define Z8_RP 0xFDu    /* register pointer */
@@ -144,7 +154,7 @@ uint32_t z8_check(const uint8_t *saved, size_t saved_len);
 
 /* The reset pin. The program counter is then 000C, P01M 4D, P2M FF, the other control registers, the latches and the divider 0, T_OUT 1,
    prescalers 64, counters saved as 0, the last pins all ones, the received byte 0, and the serial port is off with nothing under way, in
-   or out; R4 to R127, type and entry cost stay. Refuses with 7, 6. */
+   or out; Z8_EI_EXECUTED is clear. R4 to R127, type and entry cost stay. Refuses with 7, 6. */
 uint32_t z8_reset(uint8_t *saved, size_t saved_len);
 
 /* ---- Instructions and their bytes ---- */
@@ -168,8 +178,13 @@ uint32_t z8_encode(uint8_t opcode, uint8_t first, uint8_t second,
 
    pins0 to pins3 are the levels at the pins of ports 0 to 3. A program reads them where a port bit is an input; of pins3 the falling edges
    of bits 0 to 3 are interrupt requests too (bit 0's not while the serial port is on), and all eight bits become the last pins
-   (Z8_AT_PORT3). Where nothing is connected, pass FF: after making or a reset the last pins are all ones, so a first pins3 of 0 requests
-   interrupts 0 to 3. */
+   (Z8_AT_PORT3). Where nothing is connected, pass FF: after making or a reset the last pins are all ones, so a first pins3 of 0 is a
+   falling edge of each.
+
+   Requests are held until the first EI after making or a reset: till then no edge, no end of a timer and nothing of the serial port latches
+   one, and FA reads 0 and drops stores, by whatever stores. All else goes on: ends are counted, T_OUT flips, a single pass stops, an edge
+   of P31 ticks T1, the port sends and receives. EI alone releases them: no store to IMR does, though it set bit 7, and no IRET; and DI does
+   not hold them again. In EI's own step the edges come before it and latch nothing, and ends within its cycles come after it and latch. */
 
 /* One step: the pins are compared with the last ones, an interrupt is granted or else one instruction executed, and the clock goes on by
    what that costs. Writes the machine, what was stored in data memory, the cycles (6 to 63), and how often T0 and T1 ended.
@@ -187,9 +202,10 @@ uint32_t z8_run(uint8_t *saved, size_t saved_len, const uint8_t *image, size_t i
                 uint8_t pins0, uint8_t pins1, uint8_t pins2, uint8_t pins3, uint32_t budget,
                 uint32_t *cycles, uint32_t *ends0, uint32_t *ends1);
 
-/* The clock alone, for any number of cycles: divider, both timers, T_OUT, the serial port while it is on, the requests that these latch,
-   and the enable bit in TMR (F1) that the end of a single pass clears. No instruction is executed and no pins are compared, so no start bit
-   is found; P30 and P31 are as in the last pins. By division: a long span takes no longer than a short one. Refuses with 7, 6. */
+/* The clock alone, for any number of cycles: divider, both timers, T_OUT, the serial port while it is on, the requests that these latch
+   unless they are held, and the enable bit in TMR (F1) that the end of a single pass clears. No instruction is executed and no pins are
+   compared, so no start bit is found; P30 and P31 are as in the last pins. By division: a long span takes no longer than a short one.
+   Refuses with 7, 6. */
 uint32_t z8_span(uint8_t *saved, size_t saved_len, uint32_t span,
                  uint32_t *ends0, uint32_t *ends1);
 
@@ -203,7 +219,7 @@ uint32_t z8_span(uint8_t *saved, size_t saved_len, uint32_t span,
    after the store. A store before that begins anew with the new byte, and no request comes for the lost one. A falling edge of P30 while
    no character is coming in is a start bit: the 8th end after it looks at P30 again, and high takes the edge back; from there every 16th
    end takes a bit, the lowest first. With the eighth, at the 136th end, the byte is received and request 3 comes; no stop bit is looked at.
-   P30's edges latch no request 3, and T0's ends no request 4.
+   P30's edges latch no request 3, and T0's ends no request 4. Before the first EI both requests are held, as all are.
 
    Parity is odd, and there while bit 7 of P3M is set. Set at the store, it has bit 7 of the byte replaced so that the eight bits have an
    odd number of ones. Set when a byte is received, it has bit 7 become 1 where their number was even, an error, and 0 where it was odd.

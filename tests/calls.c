@@ -85,15 +85,16 @@ static uint8_t *data_of(const struct arguments *a)
 
 #define BASE_PC 0x1234u
 
-/* A machine to which a wrong call would do much: falling edges on all lines, T1 counting them and near its
-   end, both timers near their ends, the serial port on, waiting for a start bit and near the end of a send,
-   an external stack, no grant that would come before the opcode. */
+/* A machine to which a wrong call would do much: EI executed, falling edges on all lines, T1 counting them
+   and near its end, both timers near their ends, the serial port on, waiting for a start bit and near the end
+   of a send, an external stack, no grant that would come before the opcode. */
 static void base_machine(uint8_t *saved)
 {
     struct ref_machine m;
 
     ref_make(&m, 11, 20);
     ref_save(&m, saved);
+    release_requests(saved);
     saved[TMR] = 0x8A;
     saved[PRE0] = 0x05;
     saved[PRE1] = 0x05;
@@ -283,6 +284,14 @@ static void fault_port(struct arguments *a, uint32_t value)
     memcpy(lent.saved + GUARD + Z8_AT_RECEIVED, illegal_ports[value].bytes, 8);
 }
 
+/* 02, C-13: "a legal machine that hasn't has IRQ zero". value: the requests of one that hasn't. */
+static void fault_requests_before_ei(struct arguments *a, uint32_t value)
+{
+    (void)a;
+    hold_requests(lent.saved + GUARD);
+    lent.saved[GUARD + IRQ] = (uint8_t)value;
+}
+
 static void fault_image(struct arguments *a, uint32_t value)
 {
     a->image_length = value;
@@ -355,7 +364,8 @@ static void add_illegal_byte(unsigned place, unsigned byte, const char *what)
     add_fault(6, fault_byte, place + 1000 * byte, what);
 }
 
-/* 01: "Legal: [...]", each rule broken alone at the edges of its range; and the serial port's. */
+/* 01: "Legal: [...]", each rule broken alone at the edges of its range; C-13's two rules, "the byte's other
+   bits stay zero" with each of these bits, and "IRQ zero" with each request; and the serial port's. */
 static void add_illegal_machines(void)
 {
     uint32_t k;
@@ -371,7 +381,13 @@ static void add_illegal_machines(void)
     add_illegal_byte(Z8_AT_T_OUT, 2, "T_OUT");
     add_illegal_byte(Z8_AT_TYPE, 0, "type");
     add_illegal_byte(Z8_AT_TYPE, 12, "type");
-    add_illegal_byte(Z8_AT_ZERO, 1, "byte 267");
+    for (k = 1; k < 8; k++) {
+        add_illegal_byte(Z8_AT_BITS, Z8_EI_EXECUTED | 1u << k, "byte 267");
+        add_illegal_byte(Z8_AT_BITS, 1u << k, "byte 267");
+    }
+    for (k = 0; k < 6; k++) {
+        add_fault(6, fault_requests_before_ei, 1u << k, "requests before EI");
+    }
     add_illegal_byte(0x80, 1, "place 80");
     add_illegal_byte(0xEF, 0x80, "place EF");
     add_illegal_byte(0xF0, 0xFF, "place F0");
@@ -592,29 +608,82 @@ static void check_machine_in_every_call(const char *what)
     }
 }
 
-/* Each place with each value: those that are legal and those that aren't. */
-static void check_every_value_of_every_place(void)
+/* A place with each value, of the base machine as it is or before its first EI: those that are legal and
+   those that aren't. */
+static void check_every_value_of(unsigned place, int held)
 {
-    unsigned place, value;
+    static const char *const when[] = {"", " before EI"};
     struct arguments a;
+    unsigned value;
     uint32_t found;
     char what[80];
 
-    for (place = 0; place < Z8_SAVED_LEN; place++) {
-        for (value = 0; value < 256; value++) {
-            uint8_t saved[Z8_SAVED_LEN];
+    for (value = 0; value < 256; value++) {
+        uint8_t saved[Z8_SAVED_LEN];
 
-            base_machine(saved);
-            saved[place] = (uint8_t)value;
-            found = z8_check(saved, Z8_SAVED_LEN);
-            sprintf(what, "z8_check with %s = %02X", name_of_saved_byte(place), value);
-            check_number((unsigned long)ref_check(saved, Z8_SAVED_LEN), found, what);
+        base_machine(saved);
+        if (held) {
+            hold_requests(saved);
         }
-        /* The other calls with a few values, as each compares much. */
-        for (value = 1; value < 256; value = value * 2 + 1) {
+        saved[place] = (uint8_t)value;
+        found = z8_check(saved, Z8_SAVED_LEN);
+        sprintf(what, "z8_check with %s = %02X%s", name_of_saved_byte(place), value, when[held]);
+        check_number((unsigned long)ref_check(saved, Z8_SAVED_LEN), found, what);
+    }
+    /* The other calls with a few values, as each compares much. */
+    for (value = 1; value < 256; value = value * 2 + 1) {
+        base_call(&a);
+        if (held) {
+            hold_requests(lent.saved + GUARD);
+        }
+        lent.saved[GUARD + place] = (uint8_t)value;
+        sprintf(what, "a call with %s = %02X%s", name_of_saved_byte(place), value, when[held]);
+        check_machine_in_every_call(what);
+    }
+}
+
+static void check_every_value_of_every_place(void)
+{
+    unsigned place;
+
+    for (place = 0; place < Z8_SAVED_LEN; place++) {
+        check_every_value_of(place, 0);
+        check_every_value_of(place, 1);
+    }
+}
+
+/* C-13: bit 0 of byte 267 is 0 or 1 and "the byte's other bits stay zero", and a machine with it clear "has
+   IRQ zero", where one with it set has IRQ as in 01. */
+static uint32_t refusal_of_requests(unsigned bits, unsigned irq)
+{
+    return bits > 1 || irq > 0x3F || (bits == 0 && irq != 0) ? 6 : 0;
+}
+
+/* Every byte 267 with every IRQ; and in every call each byte 267 with no request, each request and all. */
+static void check_requests_and_ei(void)
+{
+    static const uint8_t requests[] = {0x00, 0x01, 0x02, 0x04, 0x08, 0x10, 0x20, 0x3F};
+    uint8_t saved[Z8_SAVED_LEN];
+    unsigned bits, irq;
+    struct arguments a;
+    char what[80];
+    size_t k;
+
+    base_machine(saved);
+    for (bits = 0; bits < 256; bits++) {
+        saved[Z8_AT_BITS] = (uint8_t)bits;
+        for (irq = 0; irq < 256; irq++) {
+            saved[IRQ] = (uint8_t)irq;
+            sprintf(what, "z8_check with byte 267 = %02X and IRQ = %02X", bits, irq);
+            check_number(refusal_of_requests(bits, irq), z8_check(saved, Z8_SAVED_LEN), what);
+        }
+        for (k = 0; k < sizeof requests; k++) {
             base_call(&a);
-            lent.saved[GUARD + place] = (uint8_t)value;
-            sprintf(what, "a call with %s = %02X", name_of_saved_byte(place), value);
+            lent.saved[GUARD + Z8_AT_BITS] = (uint8_t)bits;
+            lent.saved[GUARD + IRQ] = requests[k];
+            sprintf(what, "a call with byte 267 = %02X and IRQ = %02X", bits, requests[k]);
+            check_number(refusal_of_requests(bits, requests[k]),
+                         (unsigned long)ref_check(lent.saved + GUARD, Z8_SAVED_LEN), what);
             check_machine_in_every_call(what);
         }
     }
@@ -698,8 +767,8 @@ static void check_ports(void)
     check_half_of_the_port(Z8_AT_SENDER_BITS, Z8_AT_SENDER_PLACE, Z8_AT_SENDER_ENDS);
 }
 
-/* z8.h: "A kept one is carried over by appending 00 FF 00 00 FF 00 00 00", so that nothing is received and
-   nothing under way, and its first 268 bytes are as they were. */
+/* z8.h: "from before version 2, when it had 268 bytes: append 00 FF 00 00 FF 00 00 00", so that nothing is
+   received and nothing under way, and its first 268 bytes are as they were. */
 static void check_carried_over(void)
 {
     static const uint8_t appended[8] = {0x00, 0xFF, 0x00, 0x00, 0xFF, 0x00, 0x00, 0x00};
@@ -719,6 +788,48 @@ static void check_carried_over(void)
     memcpy(before, kept, Z8_SAVED_LEN);
     check_number(Z8_OK, z8_span(kept, Z8_SAVED_LEN, 4294967295u, &ends0, &ends1), "and moved on");
     check(memcmp(before + 268, kept + 268, sizeof appended) == 0, "with nothing under way");
+}
+
+/* A step of that opcode, with all lines of Port 3 low. */
+static void step_with_edges(uint8_t *m, uint8_t opcode)
+{
+    uint32_t cycles, ends0, ends1;
+
+    m[Z8_AT_PC] = m[Z8_AT_PC + 1] = 0;
+    check_number(Z8_OK,
+                 z8_step(m, Z8_SAVED_LEN, &opcode, 1, NULL, 0, 255, 255, 255, 0, &cycles, &ends0, &ends1),
+                 "a step of a kept machine");
+}
+
+/* z8.h: "from before version 3: byte 267 was always 0 [...] If you know that it had been [executed], set
+   Z8_EI_EXECUTED. Without it a machine whose IRQ is not zero is refused with 6, and one whose IRQ is zero
+   goes on, but with its requests held until its next EI." */
+static void check_carried_over_ei(void)
+{
+    uint8_t kept[Z8_SAVED_LEN], known[Z8_SAVED_LEN];
+
+    base_machine(kept);
+    kept[P3M] = 0;
+    kept[Z8_AT_BITS] = 0;
+    kept[IRQ] = 0x21;
+    check_number(Z8_REFUSED_MACHINE, z8_check(kept, Z8_SAVED_LEN), "a kept machine with requests");
+    memcpy(known, kept, Z8_SAVED_LEN);
+    known[Z8_AT_BITS] |= Z8_EI_EXECUTED;
+    check_number(Z8_OK, z8_check(known, Z8_SAVED_LEN), "the same, known to have executed EI");
+    step_with_edges(known, 0xFF);
+    check_number(0x3F, known[IRQ], "its requests are latched");
+
+    kept[IRQ] = 0;
+    check_number(Z8_OK, z8_check(kept, Z8_SAVED_LEN), "a kept machine without requests");
+    step_with_edges(kept, 0xFF);
+    check_number(0, kept[IRQ], "its requests are held");
+    kept[Z8_AT_PORT3] = 0xFF;
+    step_with_edges(kept, 0x9F);
+    check_number(Z8_EI_EXECUTED, kept[Z8_AT_BITS], "until its next EI");
+    kept[Z8_AT_PORT3] = 0xFF;
+    kept[IMR] = 0;
+    step_with_edges(kept, 0xFF);
+    check_number(0x0F, kept[IRQ] & 0x0Fu, "and latched from then on");
 }
 
 static void check_random_bytes(void)
@@ -1230,6 +1341,7 @@ static void check_vector(void)
         image[k] = (uint8_t)(0x40 + k);
     }
     z8_make(m, Z8_SAVED_LEN, 11, 37);
+    release_requests(m);
     m[IPR] = 0x08;
     m[IMR] = 0xBF;
     m[IRQ] = 0x3F;
@@ -1260,26 +1372,40 @@ static void fresh_timer(uint8_t *m, enum timer timer, unsigned p, unsigned n)
     m[TMR] |= timer == TIMER_0 ? 0x02 : 0x08;
 }
 
-/* Each timer alone, so that an end of the other one would be seen; with the serial port off, and on, where
-   "T0's ends latch no request 4" and "are counted [...] as ever". */
+/* With the serial port off, and on, where "T0's ends latch no request 4" and "are counted [...] as ever";
+   before the first EI, where "timer ends latch nothing" and "Ends are counted [...] as before" (02, C-13), and
+   after. */
+static void check_ends_of(enum timer timer, int on, int held, unsigned p, unsigned n, unsigned divider,
+                          uint32_t span, uint32_t ends, const char *what)
+{
+    const unsigned request = timer == TIMER_1 ? 0x20 : on ? 0 : 0x10;
+    uint32_t ends0 = UNTOUCHED, ends1 = UNTOUCHED;
+    uint8_t m[Z8_SAVED_LEN];
+
+    z8_make_default(m, Z8_SAVED_LEN);
+    if (!held) {
+        release_requests(m);
+    }
+    fresh_timer(m, timer, p, n);
+    m[Z8_AT_DIVIDER] = (uint8_t)divider;
+    m[P3M] = on ? 0x40 : 0;
+    check_number(0, z8_span(m, Z8_SAVED_LEN, span, &ends0, &ends1), what);
+    check_number(timer == TIMER_0 ? ends : 0, ends0, what);
+    check_number(timer == TIMER_1 ? ends : 0, ends1, what);
+    check_number(ends == 0 || held ? 0 : request, m[IRQ], what);
+}
+
+/* Each timer alone, so that an end of the other one would be seen. */
 static void check_ends(unsigned p, unsigned n, unsigned divider, uint32_t span, uint32_t ends,
                        const char *what)
 {
-    int timer, on;
+    int timer, on, held;
 
     for (timer = TIMER_0; timer <= TIMER_1; timer++) {
         for (on = 0; on < 2; on++) {
-            uint8_t m[Z8_SAVED_LEN];
-            uint32_t ends0 = UNTOUCHED, ends1 = UNTOUCHED;
-
-            z8_make_default(m, Z8_SAVED_LEN);
-            fresh_timer(m, (enum timer)timer, p, n);
-            m[Z8_AT_DIVIDER] = (uint8_t)divider;
-            m[P3M] = on ? 0x40 : 0;
-            check_number(0, z8_span(m, Z8_SAVED_LEN, span, &ends0, &ends1), what);
-            check_number(timer == TIMER_0 ? ends : 0, ends0, what);
-            check_number(timer == TIMER_1 ? ends : 0, ends1, what);
-            check_number(ends == 0 ? 0 : timer == TIMER_1 ? 0x20 : on ? 0 : 0x10, m[IRQ], what);
+            for (held = 0; held < 2; held++) {
+                check_ends_of((enum timer)timer, on, held, p, n, divider, span, ends, what);
+            }
         }
     }
 }
@@ -1398,6 +1524,7 @@ static void check_offsets(void)
         0xE6, TMR,  0x05,          /* LD TMR: both loaded, neither counts */
         0x8D, 0x51, 0x52,          /* JP %5152 */
     };
+    static const uint8_t release[] = {0x9F};          /* EI */
     static const uint8_t start[] = {0xE6, TMR, 0x43}; /* LD TMR: T0 loaded, counting, at T_OUT */
     uint8_t m[Z8_SAVED_LEN];
     uint32_t ends0, ends1;
@@ -1416,16 +1543,24 @@ static void check_offsets(void)
     check_number(42, m[Z8_AT_T1_PRESCALER], "Z8_AT_T1_PRESCALER");
     check_number(0x54, m[Z8_AT_T1_COUNTER], "Z8_AT_T1_COUNTER");
     check_number(0x55, m[Z8_AT_PORT3], "Z8_AT_PORT3");
-    check_number(0, m[Z8_AT_ZERO], "Z8_AT_ZERO");
+    check_number(0, m[Z8_AT_BITS], "Z8_AT_BITS, before EI");
+    steps_of(m, release, sizeof release, 1, 0xFF);
+    check_number(Z8_EI_EXECUTED, m[Z8_AT_BITS], "Z8_AT_BITS, after it");
+    check_number((6 * 10 + 12 + 6) % 4, m[Z8_AT_DIVIDER], "Z8_AT_DIVIDER, after EI");
 
     steps_of(m, start, sizeof start, 1, 0xFF);
     check_number(Z8_OK, z8_span(m, Z8_SAVED_LEN, 4 * 41 * 0x53, &ends0, &ends1), "a span to T0's end");
     check_number(0, m[Z8_AT_T_OUT], "Z8_AT_T_OUT, flipped");
     z8_span(m, Z8_SAVED_LEN, 3, &ends0, &ends1);
-    check_number((10 + 4 * 41 * 0x53 + 3) % 4, m[Z8_AT_DIVIDER], "Z8_AT_DIVIDER, after a span");
+    check_number((6 + 10 + 4 * 41 * 0x53 + 3) % 4, m[Z8_AT_DIVIDER], "Z8_AT_DIVIDER, after a span");
+    check_number(0x10, m[Z8_AT_REGISTERS + Z8_IRQ], "T0's request");
 
-    m[Z8_AT_ZERO] = 1;
-    check_number(Z8_REFUSED_MACHINE, z8_check(m, Z8_SAVED_LEN), "Z8_AT_ZERO has to be 0");
+    m[Z8_AT_BITS] = 0;
+    check_number(Z8_REFUSED_MACHINE, z8_check(m, Z8_SAVED_LEN), "Z8_EI_EXECUTED clear, and a request");
+    m[Z8_AT_BITS] = Z8_EI_EXECUTED;
+    check_number(Z8_OK, z8_check(m, Z8_SAVED_LEN), "Z8_EI_EXECUTED set, and a request");
+    m[Z8_AT_BITS] = Z8_EI_EXECUTED << 1;
+    check_number(Z8_REFUSED_MACHINE, z8_check(m, Z8_SAVED_LEN), "Z8_AT_BITS has no other bit");
     check_number(Z8_REFUSED_LENGTH, z8_check(m, Z8_SAVED_LEN - 1), "a byte less than Z8_SAVED_LEN");
     check_number(Z8_REFUSED_LENGTH, z8_check(m, Z8_SAVED_LEN + 1), "a byte more than Z8_SAVED_LEN");
 }
@@ -1443,6 +1578,7 @@ static void check_ports_offsets(void)
     uint32_t ends0, ends1;
 
     z8_make_default(m, Z8_SAVED_LEN);
+    release_requests(m);
     steps_of(m, program, sizeof program, 2, 0xFF);
     check_number(0xB5, m[Z8_AT_SENDER_BITS], "Z8_AT_SENDER_BITS");
     check_number(1, m[Z8_AT_SENDER_PLACE], "Z8_AT_SENDER_PLACE, the start bit");
@@ -1676,6 +1812,7 @@ static void check_register_names(void)
         const uint8_t program[3] = {0xE6, r->number, byte};
 
         z8_make_default(m, Z8_SAVED_LEN);
+        release_requests(m); /* a store to IRQ stays */
         steps_of(m, program, sizeof program, 1, 0xFF);
         check_number(byte & r->kept, m[Z8_AT_REGISTERS + r->name], r->what);
     }
@@ -1683,6 +1820,7 @@ static void check_register_names(void)
      */
     for (address = 0xF0; address <= 0xFF; address++) {
         z8_make_default(m, Z8_SAVED_LEN);
+        release_requests(m); /* IRQ may be other than zero */
         m[Z8_AT_REGISTERS + address] = 0x10;
         check_number(address == Z8_SIO ? Z8_REFUSED_MACHINE : Z8_OK, z8_check(m, Z8_SAVED_LEN), "Z8_SIO");
     }
@@ -1759,8 +1897,10 @@ int main(void)
 {
     check_all_faults();
     check_every_value_of_every_place();
+    check_requests_and_ei();
     check_ports();
     check_carried_over();
+    check_carried_over_ei();
     check_random_bytes();
     check_every_length();
     check_lengths_that_are_fine();

@@ -7,9 +7,9 @@
 enum { TMR = 0xF1, T1 = 0xF2, PRE1 = 0xF3, T0 = 0xF4, PRE0 = 0xF5, IRQ = 0xFA };
 enum { IMR = 0xFB, RP = 0xFD, SPH = 0xFE, SPL = 0xFF };
 
-/* Places of the saved machine, by 01 and z8-requests.h. */
+/* Places of the saved machine, by 01, 02 (C-13: "the saved machine's spare byte") and z8-requests.h. */
 enum { PC = 256, DIVIDER = 258, PRESCALER0 = 259, COUNTER0 = 260, PRESCALER1 = 261 };
-enum { COUNTER1 = 262, PINS3 = 263, T_OUT = 264, TYPE = 265, ENTRY_COST = 266, ZERO = 267 };
+enum { COUNTER1 = 262, PINS3 = 263, T_OUT = 264, TYPE = 265, ENTRY_COST = 266, SPARE = 267 };
 enum { RECEIVED = 268, SHIFT = 269, AWAITS = 270, RECEIVER_ENDS = 271 };
 enum { BITS = 272, PLACE = 273, SENDER_ENDS = 274, PORT_ZERO = 275 };
 
@@ -207,6 +207,17 @@ static void draw_serial(struct dice *d, uint8_t *saved)
     saved[PORT_ZERO] = 0;
 }
 
+void hold_requests(uint8_t *saved)
+{
+    saved[SPARE] = 0;
+    saved[IRQ] = 0;
+}
+
+void release_requests(uint8_t *saved)
+{
+    saved[SPARE] = 1;
+}
+
 void draw_machine(struct dice *d, const struct lean *lean, uint8_t *saved)
 {
     static const uint32_t costs[] = {6, 7, 20, 62, 63};
@@ -227,6 +238,11 @@ void draw_machine(struct dice *d, const struct lean *lean, uint8_t *saved)
     draw_timers(d, saved);
     draw_serial(d, saved);
     saved[IRQ] &= 0x3F;
+    if (one_in(d, 4)) {
+        hold_requests(saved);
+    } else {
+        release_requests(saved);
+    }
     if (!lean->requests) {
         saved[IMR] &= 0x7F;
     }
@@ -236,5 +252,4 @@ void draw_machine(struct dice *d, const struct lean *lean, uint8_t *saved)
     }
     saved[TYPE] = (uint8_t)(one_in(d, 2) ? 1 : 11);
     saved[ENTRY_COST] = (uint8_t)(one_in(d, 2) ? 6 + below(d, 58) : one_of(d, costs, LENGTH_OF(costs)));
-    saved[ZERO] = 0;
 }

@@ -31,7 +31,11 @@ struct lean {
 };
 
 /* A legal saved machine (276 bytes). Its serial port is on as often as not, and in any state that is legal.
- */
+   One in four has not executed EI. */
 void draw_machine(struct dice *d, const struct lean *lean, uint8_t *saved);
+
+/* 02, C-13: as before the first EI, with IRQ zero; and as after it. */
+void hold_requests(uint8_t *saved);
+void release_requests(uint8_t *saved);
 
 #endif

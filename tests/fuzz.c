@@ -61,7 +61,6 @@ static void make_legal(uint8_t *saved)
         saved[at] = 0;
     }
     saved[0xF1] &= 0xFA;
-    saved[0xFA] &= 0x3F;
     saved[0xFD] &= 0xF0;
     saved[Z8_AT_DIVIDER] %= 4;
     saved[Z8_AT_T0_PRESCALER] = (uint8_t)(1 + saved[Z8_AT_T0_PRESCALER] % 64);
@@ -69,7 +68,8 @@ static void make_legal(uint8_t *saved)
     saved[Z8_AT_T_OUT] %= 2;
     saved[Z8_AT_TYPE] = saved[Z8_AT_TYPE] % 2 ? Z8_TYPE_Z8601 : Z8_TYPE_Z8611;
     saved[Z8_AT_ENTRY_COST] = (uint8_t)(6 + saved[Z8_AT_ENTRY_COST] % 58);
-    saved[Z8_AT_ZERO] = 0;
+    saved[Z8_AT_BITS] &= Z8_EI_EXECUTED;
+    saved[0xFA] &= saved[Z8_AT_BITS] ? 0x3F : 0x00; /* 02, C-13: "a legal machine that hasn't has IRQ zero" */
     make_port_legal(saved);
 }
 

@@ -117,6 +117,13 @@ static void new_machine(unsigned type)
     all_ends0 = all_ends1 = 0;
 }
 
+/* 10.4.3: "IRQ is held in a Reset state until an EI instruction is executed." As after that instruction, so
+   that requests are latched. */
+static void release_requests(void)
+{
+    saved[Z8_AT_BITS] = Z8_EI_EXECUTED;
+}
+
 static void set_pc(unsigned pc)
 {
     saved[Z8_AT_PC] = (uint8_t)(pc / 256);
@@ -147,6 +154,8 @@ struct fact {
 #define PROG(address, value) {PROGRAM, (address), (value)}
 #define MEM(address, value) {DATA, (address), (value)}
 #define EXTERNAL_STACK REG(P01M, 0x00)
+#define EI_EXECUTED REG(Z8_AT_BITS, Z8_EI_EXECUTED)
+#define NO_EI_YET REG(Z8_AT_BITS, 0)
 #define SP(value) PAIR(0xFE, (value))
 #define NOTHING {NO_FACT, 0, 0}
 
@@ -422,18 +431,18 @@ static const struct example examples[] = {
      "there are no higher priority pending requests, control is transferred to the service routine "
      "pointed to by the level 5 vector",
      0x200, 2, 3, {0x46, IRQ, 0x20},
-     {REG(IPR, 0x08), REG(IMR, 0xA0), PROG(10, 0x43), PROG(11, 0x21), REG(0xFF, 0x60)},
+     {EI_EXECUTED, REG(IPR, 0x08), REG(IMR, 0xA0), PROG(10, 0x43), PROG(11, 0x21), REG(0xFF, 0x60)},
      {PC_IS(0x4321), REG(IRQ, 0), REG(IMR, 0x20), REG(0x5E, 0x02), REG(0x5F, 0x03), REG(0xFF, 0x5D)}},
     {"10.7",
      "TM IRQ,#MASK / JR Z NEXT / CALL SERVICE, IRQ_2 polled, MASK 00000100: no request, so \"go to "
      "NEXT\"",
      0x200, 2, 8, {0x76, IRQ, 0x04, 0x6B, 0x03, 0xD6, 0x30, 0x00},
-     {REG(IRQ, 0x3B), REG(0xFF, 0x60)}, {PC_IS(0x208), REG(IRQ, 0x3B)}},
+     {EI_EXECUTED, REG(IRQ, 0x3B), REG(0xFF, 0x60)}, {PC_IS(0x208), REG(IRQ, 0x3B)}},
     {"10.7",
      "\"If request is there then service it\": the same with AND IRQ,#MASK_ (11111011) / RET at "
      "SERVICE, \"Return to next\"",
      0x200, 5, 8, {0x76, IRQ, 0x04, 0x6B, 0x03, 0xD6, 0x30, 0x00},
-     {REG(IRQ, 0x3F), REG(0xFF, 0x60), PROG(0x3000, 0x56), PROG(0x3001, IRQ), PROG(0x3002, 0xFB),
+     {EI_EXECUTED, REG(IRQ, 0x3F), REG(0xFF, 0x60), PROG(0x3000, 0x56), PROG(0x3001, IRQ), PROG(0x3002, 0xFB),
       PROG(0x3003, 0xAF)},
      {PC_IS(0x208), REG(IRQ, 0x3B), REG(0xFF, 0x60)}},
     {"10.6.2",
@@ -445,12 +454,50 @@ static const struct example examples[] = {
     {"10.4.3",
      "CLR IMR / EI / DI",
      0x200, 3, 4, {0xB0, IMR, 0x9F, 0x8F},
-     {REG(IMR, 0x3F), REG(IRQ, 0x3F)}, {REG(IMR, 0), PC_IS(0x204)}},
+     {EI_EXECUTED, REG(IMR, 0x3F), REG(IRQ, 0x3F)}, {REG(IMR, 0), REG(IRQ, 0x3F), PC_IS(0x204)}},
+    {"10.4.3",
+     "IRQ is held in a Reset state until an EI instruction is executed: LD IRQ,#%04 without one",
+     0x200, 1, 3, {0xE6, IRQ, 0x04},
+     {NOTHING}, {REG(IRQ, 0), NO_EI_YET}},
+    {"10.4.3",
+     "the same with an EI before: EI / LD IRQ,#%04",
+     0x200, 2, 4, {0x9F, 0xE6, IRQ, 0x04},
+     {NOTHING}, {REG(IRQ, 0x04), EI_EXECUTED}},
+    {"10.4.3",
+     "For polled processing, IRQ must still be initialized by an EI instruction, but IMR should first be "
+     "cleared to 0 [...] CLR IMR / EI / DI, and then OR IRQ,#%04: it stands and isn't granted",
+     0x200, 5, 8, {0xB0, IMR, 0x9F, 0x8F, 0x46, IRQ, 0x04, 0xFF},
+     {REG(IPR, 0x08), REG(IMR, 0x3F)}, {REG(IMR, 0), REG(IRQ, 0x04), EI_EXECUTED, PC_IS(0x208)}},
+    {"10.4.3",
+     "\"until an EI instruction is executed\": LD IMR,#%FF / OR IRQ,#%04 is none",
+     0x200, 2, 6, {0xE6, IMR, 0xFF, 0x46, IRQ, 0x04},
+     {REG(IPR, 0x08)}, {REG(IMR, 0xFF), REG(IRQ, 0), NO_EI_YET, PC_IS(0x206)}},
+    {"10.4.3",
+     "the same: OR IMR,#%80 / OR IRQ,#%04",
+     0x200, 2, 6, {0x46, IMR, 0x80, 0x46, IRQ, 0x04},
+     {REG(IPR, 0x08), REG(IMR, 0x3F)}, {REG(IMR, 0xBF), REG(IRQ, 0), NO_EI_YET, PC_IS(0x206)}},
+    {"10.4.2, 10.4.3",
+     "[D_7 is] set following the execution of an Interrupt Return (IRET) instruction, which is no EI: IRET / "
+     "OR IRQ,#%04",
+     0x200, 2, 1, {0xBF},
+     {REG(IPR, 0x08), REG(IMR, 0x3F), REG(0xFF, 0x5D), REG(0x5D, 0x00), REG(0x5E, 0x03), REG(0x5F, 0x00),
+      PROG(0x300, 0x46), PROG(0x301, IRQ), PROG(0x302, 0x04)},
+     {REG(IMR, 0xBF), REG(IRQ, 0), NO_EI_YET, PC_IS(0x303)}},
+    {"10.5",
+     "IRQ can be used to generate software interrupts by specifying IRQ as the destination of any "
+     "instruction: not before EI. OR IRQ,#%20 reads 0, its flags go by %20, its store is dropped",
+     0x200, 2, 5, {0x46, IRQ, 0x20, 0x08, IRQ},
+     {REG(IPR, 0x08), REG(IMR, 0xA0)}, {REG(IRQ, 0), R(0, 0), CLEAR(Z | S | V), PC_IS(0x205)}},
     {"10.8",
      "[IMR] Bit D_6 is not implemented, though reading this bit returns 0. [IRQ] Bits D_6 and D_7 are "
      "not implemented, but reading these bits returns 0.",
      0x200, 4, 10, {0xE6, IMR, 0x7F, 0x08, IMR, 0xE6, IRQ, 0xFF, 0x18, IRQ},
-     {NOTHING}, {R(0, 0x3F), R(1, 0x3F)}},
+     {EI_EXECUTED}, {R(0, 0x3F), R(1, 0x3F)}},
+    {"10.8",
+     "IRQ bits D_0-D_5 are held at 0 until an EI instruction is executed: LD IRQ,#%FF / LD R1,IRQ / EI / LD "
+     "IRQ,#%FF / LD R2,IRQ",
+     0x200, 5, 11, {0xE6, IRQ, 0xFF, 0x18, IRQ, 0x9F, 0xE6, IRQ, 0xFF, 0x28, IRQ},
+     {R(1, 0x77), R(2, 0x77)}, {R(1, 0), R(2, 0x3F), EI_EXECUTED}},
     {"11.3.1",
      "OR TMR,#%03 sets both D_0 and D_1 of TMR to 1. This loads the initial values of PRE_0 and T_0 "
      "into their respective counters and starts the count (\"The next internal clock resets bits D_0 "
@@ -536,14 +583,6 @@ static const struct misprint misprints[] = {
       "JP @RR4",
       0x200, 1, 2, {0x30, 0xE4},
       {RR(4, 0x1520)}, {PC_IS(0x1520)}}},
-    {"10.4.3, 10.8",
-     "IRQ is held in a Reset state until an EI instruction is executed.",
-     "01 (HOUSE): requests are latched at all times",
-     "a store of a request stays without an EI",
-     {"10.4.3",
-      "LD IRQ,#%04 without an EI",
-      0x200, 1, 3, {0xE6, IRQ, 0x04},
-      {NOTHING}, {REG(IRQ, 0x04)}}},
     {"11.4",
      "While programmed as T_OUT, P3_6 cannot be modified by a write to port register P3.",
      "01 (HOUSE): other port stores go to the latch, and an output bit reads its latch",
@@ -681,6 +720,7 @@ static void check_reset(void)
     new_machine(Z8_TYPE_Z8601);
     memset(saved + 4, 0x5F, 0x7C);
     saved[IMR] = saved[PRE0] = saved[PRE1] = 0xFF;
+    release_requests();
     saved[IRQ] = 0x3F;
     saved[TMR] = 0xFA;
     set_pc(0x1234);
@@ -689,6 +729,7 @@ static void check_reset(void)
           "location 12 is loaded into the Program Counter after a hardware reset");
     check(0, saved[IMR] & 0x80, "z8_reset", "10.8", "In IMR, bit D_7 is 0");
     check(0, saved[IRQ], "z8_reset", "10.8", "IRQ bits D_0-D_5 are 0");
+    check(0, saved[Z8_AT_BITS], "z8_reset", "10.8", "and held at 0 until an EI instruction is executed");
     check(0, saved[TMR], "z8_reset", "11.7", "disabled, External Clock mode, T_OUT off");
     check(0, saved[PRE0] & 1, "z8_reset", "11.7", "T0 Single-Pass");
     check(0, saved[PRE1] & 3, "z8_reset", "11.7", "T1 Single-Pass, external");
@@ -710,6 +751,7 @@ static void check_vectors(const struct engine *engine)
         for (k = 0; k < 12; k++) {
             image[k] = (uint8_t)(0x20 + k);
         }
+        release_requests();
         saved[IPR] = 0x08;
         saved[IMR] = 0xBF;
         saved[0xFF] = 0x60;
@@ -736,6 +778,7 @@ static unsigned long grants_in_turn(const struct engine *engine, unsigned ipr)
     for (k = 0; k < 12; k++) {
         image[k] = (uint8_t)(k % 2 == 0 ? 0x40 : k / 2); /* the vector's low byte tells which */
     }
+    release_requests();
     saved[IPR] = (uint8_t)ipr;
     saved[IRQ] = 0x3F;
     for (k = 0; k < 6; k++) {
@@ -821,12 +864,16 @@ static void check_span_ends(uint32_t span, uint32_t expected0, uint32_t expected
     check(expected1, ends1, "z8_span, T_1", "11.3.2", what);
 }
 
-/* T0 ends first, T1 some cycles later. */
-static void check_end_of_count(int repeating)
+/* T0 ends first, T1 some cycles later; with an EI executed, and without, where 10.8 has IRQ "held at 0" and
+   02 "Ends are counted and T_OUT flips as before". */
+static void check_end_of_count(int repeating, int released)
 {
     const uint32_t interval0 = 4 * 5 * 7, interval1 = 4 * 5 * 8, turns = 10;
 
     new_machine(Z8_TYPE_Z8611);
+    if (released) {
+        release_requests();
+    }
     saved[PRE0] = (uint8_t)(5 * 4 + repeating);
     saved[PRE1] = (uint8_t)(5 * 4 + 2 + repeating);
     saved[T0] = 7;
@@ -838,28 +885,33 @@ static void check_end_of_count(int repeating)
     check_span_ends(interval0 - 1, 0, 0, "not before i = t x p x v");
     check(0, saved[IRQ], "z8_span", "11.3.2", "no request before");
     check_span_ends(1, 1, 0, "i = t x p x v");
-    check(0x10, saved[IRQ], "z8_span", "11.3.2", "IRQ_4 for T_0");
+    check(released ? 0x10 : 0, saved[IRQ], "z8_span", "11.3.2", "IRQ_4 for T_0");
     check(0, saved[Z8_AT_T_OUT], "z8_span", "11.4", "T_OUT toggles");
     check(repeating ? 7 : 0, saved[Z8_AT_T0_COUNTER], "z8_span", "11.3.2", "rest with %00, or reloaded: T0");
     check_span_ends(interval1 - interval0 - 1, 0, 0, "not before i = t x p x v");
     check_span_ends(1, 0, 1, "i = t x p x v");
-    check(0x30, saved[IRQ], "z8_span", "11.3.2", "and IRQ_5 for T_1");
+    check(released ? 0x30 : 0, saved[IRQ], "z8_span", "11.3.2", "and IRQ_5 for T_1");
     check(0, saved[Z8_AT_T_OUT], "z8_span", "11.4", "T_OUT is T_0's");
     check(repeating ? 8 : 0, saved[Z8_AT_T1_COUNTER], "z8_span", "11.3.2", "rest with %00, or reloaded: T1");
     check_span_ends(turns * interval1, repeating ? (interval1 + turns * interval1) / interval0 - 1 : 0,
                     repeating ? turns : 0, "come to rest, or counting will continue");
+    check(repeating ? 0x4A : 0x40, saved[TMR], "z8_span", "11.3.2", "come to rest, or continue: TMR");
+    check(released ? 0x30 : 0, saved[IRQ], "z8_span", "11.3.2", "and no other request");
 }
 
 /* 11.6: T0 continuous and driving T_OUT, which is wired back to T_IN, T1's external clock. "On every other
    T_0 end-of-count, T_OUT undergoes a High-to-Low transition which causes T_1 to count. [...] Each time T_1's
    end-of-count is reached, interrupt request IRQ_5 is generated. Interrupt requests IRQ_2 [...] and IRQ_4
-   [...] are also generated". */
-static void check_cascade(const struct engine *engine)
+   [...] are also generated"; before EI it counts as well, and none is. */
+static void check_cascade(const struct engine *engine, int released)
 {
     unsigned long transitions = 0;
     int steps;
 
     new_machine(Z8_TYPE_Z8611);
+    if (released) {
+        release_requests();
+    }
     saved[PRE0] = 10 * 4 + 1;
     saved[T0] = 10;
     saved[PRE1] = 3 * 4 + 1;
@@ -879,7 +931,7 @@ static void check_cascade(const struct engine *engine)
         }
     }
     check(1, all_ends1 >= 3, engine->name, "11.6", "T_1's end-of-count is reached");
-    check(0x34, saved[IRQ], engine->name, "11.6", "IRQ_5, IRQ_2 and IRQ_4 are generated");
+    check(released ? 0x34 : 0, saved[IRQ], engine->name, "11.6", "IRQ_5, IRQ_2 and IRQ_4 are generated");
 }
 
 /* 11.5: "Each High-to-Low transition on T_IN generates interrupt request IRQ_2, regardless of the selected
@@ -891,6 +943,7 @@ static void check_transitions(const struct engine *engine, unsigned mode, unsign
     unsigned counted = mode == 0 && enabled;
 
     new_machine(Z8_TYPE_Z8611);
+    release_requests();
     saved[TMR] = (uint8_t)(mode * 0x10 + enabled * 0x08);
     saved[PRE1] = 10 * 4;
     saved[Z8_AT_T1_PRESCALER] = 10;
@@ -914,6 +967,7 @@ static void check_gate(const struct engine *engine)
     int k;
 
     new_machine(Z8_TYPE_Z8611);
+    release_requests();
     saved[TMR] = 0x18;
     saved[PRE1] = 60 * 4;
     saved[Z8_AT_T1_PRESCALER] = 60;
@@ -957,10 +1011,11 @@ static void take_step(const struct engine *engine, uint8_t pins3)
     }
 }
 
-/* The serial port on or off by P3M, T0 continuous and fresh from a load of p and t. */
+/* The serial port on or off by P3M, T0 continuous and fresh from a load of p and t, EI executed. */
 static void new_port(unsigned p3m, unsigned p, unsigned t)
 {
     new_machine(Z8_TYPE_Z8611);
+    release_requests();
     steps_taken = 0;
     saved[P3M] = (uint8_t)p3m;
     saved[PRE0] = (uint8_t)(p * 4 + 1);
@@ -1269,6 +1324,250 @@ static void check_serial(const struct engine *engine)
     check_sources(engine);
 }
 
+/* ---- 10.4.3 and 10.8: before an EI instruction is executed ---- */
+
+static const char held_words[] = "IRQ bits D_0-D_5 are held at 0 until an EI instruction is executed";
+
+static void check_nothing_latched(const struct engine *engine)
+{
+    check(0, saved[IRQ], engine->name, "10.8", held_words);
+    check(0, saved[Z8_AT_BITS], engine->name, "10.8", held_words);
+}
+
+/* One instruction at 300. */
+static void instruction(const struct engine *engine, unsigned opcode, unsigned first, unsigned second,
+                        uint8_t pins3)
+{
+    image[0x300] = (uint8_t)opcode;
+    image[0x301] = (uint8_t)first;
+    image[0x302] = (uint8_t)second;
+    set_pc(0x300);
+    check(0, engine->step(pins3), engine->name, "10.8", "a step's answer");
+}
+
+/* Table 10-1's lines, P3_2, P3_3, P3_1 and P3_0, before EI, in its step, and after, where IMR is cleared
+   (polled processing: "CLR IMR / EI / DI"). The pins of an edge are the last by then, so it doesn't come
+   later. */
+static void check_edges_before_ei(const struct engine *engine)
+{
+    static const uint8_t line[4] = {0x04, 0x08, 0x02, 0x01};
+    unsigned n;
+
+    for (n = 0; n < 4; n++) {
+        const uint8_t low = (uint8_t)~line[n];
+
+        new_machine(Z8_TYPE_Z8611);
+        saved[IPR] = 0x08;
+        saved[IMR] = 0x3F;
+        instruction(engine, 0xFF, 0xFF, 0xFF, low);
+        check_nothing_latched(engine);
+        check(low, saved[Z8_AT_PORT3], engine->name, "10.8", "the pins are the last");
+        instruction(engine, 0xB0, IMR, 0xFF, 0xFF); /* CLR IMR */
+        instruction(engine, 0x9F, 0xFF, 0xFF, low); /* EI */
+        check(0, saved[IRQ], engine->name, "10.4.3", "an edge in EI's own step comes before it");
+        check(low, saved[Z8_AT_PORT3], engine->name, "10.4.3", "and is gone");
+        instruction(engine, 0x8F, 0xFF, 0xFF, low); /* DI */
+        check(0, saved[IRQ], engine->name, "10.4.3", "and is gone");
+        instruction(engine, 0xFF, 0xFF, 0xFF, 0xFF);
+        instruction(engine, 0xFF, 0xFF, 0xFF, low);
+        check(1u << n, saved[IRQ], engine->name, "10.4.3", "CLR IMR / EI / DI: a request to be polled");
+        check(0x301, pc_now(), engine->name, "10.4.3", "and isn't granted");
+    }
+}
+
+/* T_0 or T_1 with its end after so many cycles, at T_OUT. 64 ticks are to its next. */
+static void end_after(int t1, unsigned cycles, unsigned continuous)
+{
+    saved[t1 ? PRE1 : PRE0] = (uint8_t)(2 + continuous);
+    saved[t1 ? T1 : T0] = 1;
+    saved[TMR] = t1 ? 0x88 : 0x42;
+    saved[Z8_AT_DIVIDER] = (uint8_t)((4 - cycles % 4) % 4);
+    saved[t1 ? Z8_AT_T1_PRESCALER : Z8_AT_T0_PRESCALER] = (uint8_t)((cycles + 3) / 4);
+    saved[t1 ? Z8_AT_T1_COUNTER : Z8_AT_T0_COUNTER] = 1;
+}
+
+/* A NOP and EI of 6 cycles each: an end in the first 6 is before EI, one in the next 6 is in EI's own cycles.
+   02: "Ends are counted and T_OUT flips as before." */
+static void check_end_before_ei(const struct engine *engine, int t1, unsigned cycles, unsigned continuous)
+{
+    new_machine(Z8_TYPE_Z8611);
+    end_after(t1, cycles, continuous);
+    instruction(engine, 0xFF, 0xFF, 0xFF, 0xFF);
+    check_nothing_latched(engine);
+    check(cycles <= 6, t1 ? all_ends1 : all_ends0, engine->name, "10.8", "the end is counted before EI");
+    instruction(engine, 0x9F, 0xFF, 0xFF, 0xFF); /* EI */
+    check(1, t1 ? all_ends1 : all_ends0, engine->name, "10.8", "the end is counted");
+    check(0, saved[Z8_AT_T_OUT], engine->name, "11.4", "T_OUT toggles to its opposite state");
+    check(continuous, (saved[TMR] & 0x0A) != 0, engine->name, "11.3.2", "Single-Pass: come to rest");
+    check(cycles <= 6 ? 0 : t1 ? 0x20 : 0x10, saved[IRQ], engine->name, "10.8", held_words);
+}
+
+/* 11.5.1: T_1 counts the transitions of T_IN, in External Clock Input mode. */
+static void check_event_before_ei(const struct engine *engine, unsigned continuous)
+{
+    new_machine(Z8_TYPE_Z8611);
+    end_after(1, 4, continuous);
+    saved[PRE1] = (uint8_t)(5 * 4 + continuous);
+    instruction(engine, 0xFF, 0xFF, 0xFF, 0xFD);
+    check_nothing_latched(engine);
+    check(1, all_ends1, engine->name, "11.5.1", "T_1 counts events before EI");
+    check(0, saved[Z8_AT_T_OUT], engine->name, "11.4", "T_OUT toggles to its opposite state");
+    check(continuous ? 0x88 : 0x80, saved[TMR], engine->name, "11.3.2", "Single-Pass: come to rest");
+}
+
+/* 12.3.1 and 12.4 without their requests: the character is assembled, and the one that goes out is sent. */
+static void check_port_before_ei(const struct engine *engine)
+{
+    static const char line[] = "01011001011";
+
+    new_port(0x40, 3, 1);
+    saved[Z8_AT_BITS] = 0;
+    load(engine, SIO, 0xB2, 0xFE);
+    while (all_ends0 < 176) {
+        check_nothing_latched(engine);
+        check(sent[3].without[all_ends0 / 16] == '1', z8_p37(saved), engine->name, "12.4", sent[3].without);
+        take_step(engine, line[all_ends0 / 16] == '1' ? 0xFF : 0xFE);
+    }
+    check_nothing_latched(engine);
+    check(0x4D, saved[Z8_AT_RECEIVED], engine->name, "12.3.1", line);
+    check(0, saved[Z8_AT_SENDER_PLACE], engine->name, "12.4", "again a marking state");
+}
+
+/* A way to have FA, or the pair FA and FB, as destination. */
+struct store {
+    const char *words;
+    uint8_t bytes[3];
+    struct fact before[4];
+    uint8_t flags;      /* after it, where no EI was executed */
+    unsigned at, value; /* a byte after it that tells that all else was done */
+    uint8_t irq;        /* IRQ after it, where an EI was executed and requests 2, 1 and 0 stood */
+};
+
+#define ALL 0xFC
+
+/* Flags by 5.5 and the pages, from ALL and an operand 0, as which IRQ reads before EI; IMR is 05. */
+static const struct store stores[] = {
+    {"LD R10,#%2A with RP %F0", {0xAC, 0x2A}, {REG(RP, 0xF0)}, ALL, IMR, 0x05, 0x2A},
+    {"LD R10,%40 with RP %F0", {0xA8, 0x40}, {REG(RP, 0xF0), REG(0x40, 0x2A)}, ALL, 0x40, 0x2A, 0x2A},
+    {"LD IRQ,R4", {0x49, IRQ}, {R(4, 0x2A)}, ALL, 0x14, 0x2A, 0x2A},
+    {"LD R10,R2 by an index, %00(R11) with RP %F0", {0xC7, 0xAB, 0x00}, {REG(RP, 0xF0), REG(0x05, 0x2A)},
+     ALL, 0x05, 0x2A, 0x2A},
+    {"LD %F0(R5),R4", {0xD7, 0x45, 0xF0}, {R(4, 0x2A), R(5, 0x0A)}, ALL, 0x14, 0x2A, 0x2A},
+    {"LD R10,@R11 with RP %F0", {0xE3, 0xAB}, {REG(RP, 0xF0), REG(0x05, 0x2A)}, ALL, 0x05, 0x2A, 0x2A},
+    {"LD @R5,R4", {0xF3, 0x54}, {R(4, 0x2A), R(5, IRQ)}, ALL, 0x15, IRQ, 0x2A},
+    {"LD IRQ,%40", {0xE4, 0x40, IRQ}, {REG(0x40, 0x2A)}, ALL, 0x40, 0x2A, 0x2A},
+    {"LD IRQ,@%41", {0xE5, 0x41, IRQ}, {REG(0x40, 0x2A), REG(0x41, 0x40)}, ALL, 0x40, 0x2A, 0x2A},
+    {"LD IRQ,#%EA", {0xE6, IRQ, 0xEA}, {NOTHING}, ALL, IMR, 0x05, 0x2A},
+    {"LD @%40,#%2A", {0xE7, 0x40, 0x2A}, {REG(0x40, IRQ)}, ALL, 0x40, IRQ, 0x2A},
+    {"LD @%40,%41", {0xF5, 0x41, 0x40}, {REG(0x40, IRQ), REG(0x41, 0x2A)}, ALL, 0x40, IRQ, 0x2A},
+    {"ADD IRQ,#%80", {0x06, IRQ, 0x80}, {NOTHING}, S, IMR, 0x05, 0x07},
+    {"ADC IRQ,#%80, C set", {0x16, IRQ, 0x80}, {NOTHING}, S, IMR, 0x05, 0x08},
+    {"SUB IRQ,#%01", {0x26, IRQ, 0x01}, {NOTHING}, C | S | D | H, IMR, 0x05, 0x06},
+    {"SBC IRQ,#%01, C set", {0x36, IRQ, 0x01}, {NOTHING}, C | S | D | H, IMR, 0x05, 0x05},
+    {"OR IRQ,#%A0", {0x46, IRQ, 0xA0}, {NOTHING}, C | S | D | H, IMR, 0x05, 0x27},
+    {"AND IRQ,#%FE", {0x56, IRQ, 0xFE}, {NOTHING}, C | Z | D | H, IMR, 0x05, 0x06},
+    {"XOR IRQ,#%FF", {0xB6, IRQ, 0xFF}, {NOTHING}, C | S | D | H, IMR, 0x05, 0x38},
+    {"ADD R10,R11 with RP %F0", {0x02, 0xAB}, {REG(RP, 0xF0)}, 0, IMR, 0x05, 0x0C},
+    {"OR R10,@R11 with RP %F0", {0x43, 0xAB}, {REG(RP, 0xF0), REG(0x05, 0x90)},
+     C | S | D | H, IMR, 0x05, 0x17},
+    {"XOR IRQ,IMR", {0xB4, IMR, IRQ}, {NOTHING}, C | D | H, IMR, 0x05, 0x02},
+    {"SUB IRQ,@%40", {0x25, 0x40, IRQ}, {REG(0x40, IMR)}, C | S | D | H, IMR, 0x05, 0x02},
+    {"AND @%40,#%FB", {0x57, 0x40, 0xFB}, {REG(0x40, IRQ)}, C | Z | D | H, 0x40, IRQ, 0x03},
+    {"INC IRQ", {0x20, IRQ}, {NOTHING}, C | D | H, IMR, 0x05, 0x08},
+    {"INC @%40", {0x21, 0x40}, {REG(0x40, IRQ)}, C | D | H, 0x40, IRQ, 0x08},
+    {"INC R10 with RP %F0", {0xAE}, {REG(RP, 0xF0)}, C | D | H, IMR, 0x05, 0x08},
+    {"DEC IRQ", {0x00, IRQ}, {NOTHING}, C | S | D | H, IMR, 0x05, 0x06},
+    {"DEC @%40", {0x01, 0x40}, {REG(0x40, IRQ)}, C | S | D | H, 0x40, IRQ, 0x06},
+    {"INCW IRQ, the pair FA and FB", {0xA0, IRQ}, {NOTHING}, C | D | H, IMR, 0x06, 0x07},
+    {"INCW IMR, the same pair", {0xA0, IMR}, {NOTHING}, C | D | H, IMR, 0x06, 0x07},
+    {"INCW @%40", {0xA1, 0x40}, {REG(0x40, IRQ)}, C | D | H, IMR, 0x06, 0x07},
+    {"DECW IRQ, the pair FA and FB", {0x80, IRQ}, {REG(IMR, 0x00)}, C | S | D | H, IMR, 0xFF, 0x06},
+    {"DECW @%40", {0x81, 0x40}, {REG(IMR, 0x00), REG(0x40, IMR)}, C | S | D | H, IMR, 0xFF, 0x06},
+    {"CLR IRQ", {0xB0, IRQ}, {NOTHING}, ALL, IMR, 0x05, 0x00},
+    {"CLR @%40", {0xB1, 0x40}, {REG(0x40, IRQ)}, ALL, 0x40, IRQ, 0x00},
+    {"COM IRQ", {0x60, IRQ}, {NOTHING}, C | S | D | H, IMR, 0x05, 0x38},
+    {"COM @%40", {0x61, 0x40}, {REG(0x40, IRQ)}, C | S | D | H, 0x40, IRQ, 0x38},
+    {"RL IRQ", {0x90, IRQ}, {NOTHING}, Z | D | H, IMR, 0x05, 0x0E},
+    {"RLC IRQ, C set", {0x10, IRQ}, {NOTHING}, D | H, IMR, 0x05, 0x0F},
+    {"RR IRQ", {0xE0, IRQ}, {NOTHING}, Z | D | H, IMR, 0x05, 0x03},
+    {"RRC IRQ, C set", {0xC0, IRQ}, {NOTHING}, S | V | D | H, IMR, 0x05, 0x03},
+    {"SRA @%40", {0xD1, 0x40}, {REG(0x40, IRQ)}, Z | D | H, 0x40, IRQ, 0x03},
+    {"SWAP IRQ", {0xF0, IRQ}, {NOTHING}, C | Z | V | D | H, IMR, 0x05, 0x30},
+    {"DA IRQ, C set, D and H clear: 60 is added", {0x40, IRQ}, {REG(FLAGS, C)}, C, IMR, 0x05, 0x27},
+    {"DA @%40", {0x41, 0x40}, {REG(FLAGS, C), REG(0x40, IRQ)}, C, 0x40, IRQ, 0x27},
+    {"DJNZ R10 with RP %F0: its test goes by FF, so it jumps to 312", {0xAA, 0x10}, {REG(RP, 0xF0)},
+     ALL, Z8_AT_PC + 1, 0x12, 0x06},
+    {"POP IRQ", {0x50, IRQ}, {REG(0xFF, 0x60), REG(0x60, 0xEA)}, ALL, 0xFF, 0x61, 0x2A},
+    {"POP @%40", {0x51, 0x40}, {REG(0xFF, 0x60), REG(0x60, 0xEA), REG(0x40, IRQ)}, ALL, 0xFF, 0x61, 0x2A},
+    {"PUSH %40 with SPL %FB", {0x70, 0x40}, {REG(0xFF, 0xFB), REG(0x40, 0xEA)}, ALL, 0xFF, IRQ, 0x2A},
+    {"PUSH @%41 with SPL %FB", {0x71, 0x41}, {REG(0xFF, 0xFB), REG(0x40, 0xEA), REG(0x41, 0x40)},
+     ALL, 0xFF, IRQ, 0x2A},
+    {"CALL %1234 with SPL %FB: its low byte, 03", {0xD6, 0x12, 0x34}, {REG(0xFF, 0xFB)},
+     ALL, IPR, 0x03, 0x03},
+    {"CALL @%40 with SPL %FC: its high byte, 03", {0xD4, 0x40}, {REG(0xFF, 0xFC), PAIR(0x40, 0x1234)},
+     ALL, IMR, 0x02, 0x03},
+    {"LDC R10,@RR0 with RP %F0, at FF40", {0xC2, 0xA0},
+     {REG(RP, 0xF0), REG(TMR, 0x40), PROG(0xFF40, 0xEA)}, ALL, TMR, 0x40, 0x2A},
+    {"LDE R10,@RR0 with RP %F0, at FF40", {0x82, 0xA0},
+     {REG(RP, 0xF0), REG(TMR, 0x40), MEM(0xFF40, 0xEA)}, ALL, TMR, 0x40, 0x2A},
+    {"LDCI @R4,@RR6", {0xC3, 0x46}, {R(4, IRQ), RR(6, 0x30A2), PROG(0x30A2, 0xEA)}, ALL, 0x14, IRQ + 1, 0x2A},
+    {"LDEI @R4,@RR6", {0x83, 0x46}, {R(4, IRQ), RR(6, 0x30A2), MEM(0x30A2, 0xEA)}, ALL, 0x17, 0xA3, 0x2A},
+    {"LDCI @RR0,@R10 with RP %F0: R10 counts up", {0xD3, 0xA0}, {REG(RP, 0xF0), REG(TMR, 0x40)},
+     ALL, IMR, 0x05, 0x08},
+    {"LDEI @RR0,@R10 with RP %F0: R10 counts up", {0x93, 0xA0}, {REG(RP, 0xF0), REG(TMR, 0x40)},
+     ALL, IMR, 0x05, 0x08},
+    {"LDCI @RR10,@R14 with RP %F0: RR10 counts up", {0xD3, 0xEA}, {REG(RP, 0xF0)}, ALL, IMR, 0x06, 0x07},
+    {"LDEI @RR10,@R14 with RP %F0: RR10 counts up", {0x93, 0xEA}, {REG(RP, 0xF0)}, ALL, IMR, 0x06, 0x07},
+};
+
+/* 10.5: "specifying IRQ as the destination of any instruction referencing the register file". */
+static void check_store(const struct engine *engine, const struct store *s, int released)
+{
+    unsigned k;
+
+    new_machine(Z8_TYPE_Z8611);
+    saved[FLAGS] = ALL;
+    saved[IMR] = 0x05;
+    for (k = 0; k < 4; k++) {
+        establish(&s->before[k]);
+    }
+    if (released) {
+        release_requests();
+        saved[IRQ] = 0x07;
+    }
+    instruction(engine, s->bytes[0], s->bytes[1], s->bytes[2], 0xFF);
+    if (released) {
+        check(s->irq, saved[IRQ], engine->name, "10.5", s->words);
+        return;
+    }
+    check_nothing_latched(engine);
+    check(0, saved[IRQ], engine->name, "10.8", s->words);
+    check(s->flags, saved[FLAGS], engine->name, "10.8, flags", s->words);
+    check(s->value, saved[s->at], engine->name, "10.8, all else", s->words);
+    instruction(engine, 0xE4, IRQ, 0x42, 0xFF); /* LD %42,IRQ */
+    check(0, saved[0x42], engine->name, "10.8", "reading returns 0");
+}
+
+static void check_before_ei(const struct engine *engine)
+{
+    unsigned cycles, continuous;
+    size_t k;
+
+    check_edges_before_ei(engine);
+    for (continuous = 0; continuous < 2; continuous++) {
+        for (cycles = 1; cycles <= 12; cycles++) {
+            check_end_before_ei(engine, 0, cycles, continuous);
+            check_end_before_ei(engine, 1, cycles, continuous);
+        }
+        check_event_before_ei(engine, continuous);
+    }
+    check_port_before_ei(engine);
+    for (k = 0; k < sizeof stores / sizeof stores[0]; k++) {
+        check_store(engine, &stores[k], 0);
+        check_store(engine, &stores[k], 1);
+    }
+}
+
 static void print_misprints(void)
 {
     size_t k;
@@ -1299,14 +1598,18 @@ int main(int argc, char **argv)
     for (k = 0; k < 2; k++) {
         check_vectors(&engines[k]);
         check_priorities(&engines[k]);
-        check_cascade(&engines[k]);
+        check_cascade(&engines[k], 0);
+        check_cascade(&engines[k], 1);
         check_t_in(&engines[k]);
         check_serial(&engines[k]);
+        check_before_ei(&engines[k]);
     }
     check_ports_reset();
     check_prescaler_sequence();
-    check_end_of_count(0);
-    check_end_of_count(1);
+    check_end_of_count(0, 0);
+    check_end_of_count(0, 1);
+    check_end_of_count(1, 0);
+    check_end_of_count(1, 1);
     printf("manual: %lu examples and %lu misprints, %lu checks, %lu failed\n",
            (unsigned long)(sizeof examples / sizeof examples[0]),
            (unsigned long)(sizeof misprints / sizeof misprints[0]), checks, failed);

@@ -136,6 +136,36 @@ static const struct program programs[PROGRAMS] = {
          {0x50, 1, {0x6E}},             /* OUT:  INC  R6 */
          {0x51, 1, {0xBF}},             /*       IRET */
      }},
+    {"z8_run, timers, pins and stores to IRQ before EI, then requests polled",
+     {
+         {0x0C, 2, {0x31, 0x10}},       /*       SRP  #%10 */
+         {0x0E, 3, {0xE6, 0xFF, 0x70}}, /*       LD   SPL,#%70 */
+         {0x11, 3, {0xE6, 0xF5, 0x05}}, /*       LD   PRE0,#%05   one, repeating */
+         {0x14, 3, {0xE6, 0xF4, 0x07}}, /*       LD   T0,#7 */
+         {0x17, 3, {0xE6, 0xF3, 0x0B}}, /*       LD   PRE1,#%0B   two, internal, repeating */
+         {0x1A, 3, {0xE6, 0xF2, 0x09}}, /*       LD   T1,#9 */
+         {0x1D, 3, {0xE6, 0xF9, 0x08}}, /*       LD   IPR,#%08 */
+         {0x20, 3, {0xE6, 0xFB, 0xFF}}, /*       LD   IMR,#%FF    with bit 7, which is no EI */
+         {0x23, 3, {0xE6, 0xF1, 0x4F}}, /*       LD   TMR,#%4F    load and count both, T0 out */
+         {0x26, 2, {0x2C, 0x14}},       /*       LD   R2,#20      20 x 256 turns of 38 cycles before EI */
+         {0x28, 3, {0xE6, 0xFA, 0x3F}}, /* HELD: LD   IRQ,#%3F */
+         {0x2B, 3, {0x44, 0xFA, 0xE4}}, /*       OR   R4,IRQ */
+         {0x2E, 2, {0x20, 0xFA}},       /*       INC  IRQ */
+         {0x30, 2, {0x3A, 0xF6}},       /*       DJNZ R3,HELD */
+         {0x32, 2, {0x2A, 0xF4}},       /*       DJNZ R2,HELD */
+         {0x34, 2, {0xB0, 0xFB}},       /*       CLR  IMR */
+         {0x36, 2, {0x9F, 0x8F}},       /*       EI, DI */
+         {0x38, 3, {0x76, 0xFA, 0x30}}, /* POLL: TM   IRQ,#%30    the timers' */
+         {0x3B, 2, {0x6B, 0x05}},       /*       JR   Z,PINS */
+         {0x3D, 3, {0x56, 0xFA, 0xCF}}, /*       AND  IRQ,#%CF */
+         {0x40, 2, {0xA0, 0xE6}},       /*       INCW RR6 */
+         {0x42, 3, {0x76, 0xFA, 0x0F}}, /* PINS: TM   IRQ,#%0F */
+         {0x45, 2, {0x6B, 0xF1}},       /*       JR   Z,POLL */
+         {0x47, 3, {0x56, 0xFA, 0xF0}}, /*       AND  IRQ,#%F0 */
+         {0x4A, 2, {0xA0, 0xE8}},       /*       INCW RR8 */
+         {0x4C, 3, {0x46, 0xFA, 0x10}}, /*       OR   IRQ,#%10    a request by software */
+         {0x4F, 2, {0x8B, 0xE7}},       /*       JR   POLL */
+     }},
 };
 
 const char *written_program(size_t which, uint8_t bytes[PROGRAM_SIZE])

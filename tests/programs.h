@@ -5,7 +5,7 @@
 #include <stddef.h>
 #include <stdint.h>
 
-#define PROGRAMS 5
+#define PROGRAMS 6
 #define PROGRAM_SIZE 256
 
 /* Writes program 0 to PROGRAMS - 1 as an image; answers what it is. */

@@ -10,14 +10,14 @@ static const char *const control_names[16] = {
     "P01M", "IPR", "IRQ",      "IMR",  "FLAGS",    "RP",   "SPH", "SPL",
 };
 
-/* 01, "Numbers the encoder sees": bytes 256 to 267; z8-requests.h: bytes 268 to 275. */
+/* 01, "Numbers the encoder sees", and 02, C-13: bytes 256 to 267; z8-requests.h: bytes 268 to 275. */
 static const char *const other_names[20] = {
     "PC high",         "PC low",
     "divider",         "T0 prescaler",
     "T0 counter",      "T1 prescaler",
     "T1 counter",      "last Port 3 pins",
     "T_OUT",           "type",
-    "entry cost",      "byte 267",
+    "entry cost",      "EI executed",
     "received byte",   "receiver's shift",
     "receiver awaits", "receiver's ends",
     "sender's bits",   "sender's place",
@@ -70,7 +70,7 @@ static void print_given(const struct given *g)
     print_row(g, 0xF0, 0x100);
     printf("  working registers:");
     print_row(g, g->saved[0xFD] & 0xF0u, (g->saved[0xFD] & 0xF0u) + 16);
-    printf("  PC, divider, T0, T1, last pins, T_OUT, type, entry cost, 0:");
+    printf("  PC, divider, T0, T1, last pins, T_OUT, type, entry cost, EI executed:");
     print_row(g, 256, Z8_AT_RECEIVED);
     printf("  received byte, receiver's shift, awaits, ends, sender's bits, place, ends, 0:");
     print_row(g, Z8_AT_RECEIVED, Z8_SAVED_LEN);

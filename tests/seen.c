@@ -75,12 +75,34 @@ static const char *const kind_names[KINDS] = {
     "switches off with a byte under way",
     "many ends of the port",
     "single passes with the port on",
+    "edges of P30 before EI",
+    "edges of P31 before EI",
+    "edges of P32 before EI",
+    "edges of P33 before EI",
+    "T0 ends before EI",
+    "T1 ends before EI",
+    "edge ends before EI",
+    "single passes before EI",
+    "T_OUT flips before EI",
+    "bytes received before EI",
+    "sends done before EI",
+    "stores to IRQ dropped",
+    "pushes onto IRQ dropped",
+    "stores to IRQ kept",
+    "stores of bit 7 of IMR before EI",
+    "IRETs before EI",
+    "first EIs",
+    "first EIs with edges in their step",
+    "first EIs with a request in their own cycles",
+    "DIs with a request standing",
     "runs with ends",
     "runs over their budget",
     "runs stopped by 5",
     "runs stopped at once",
     "runs to a byte received",
     "runs to a byte sent",
+    "runs before EI with ends",
+    "runs over the first EI",
     "spans to ends of T0",
     "spans to ends of T1",
     "spans without an end",
@@ -93,8 +115,25 @@ static const char *const kind_names[KINDS] = {
     "spans to both",
     "spans with the port off and a byte under way",
     "spans with the port on and nothing under way",
+    "spans before EI to ends of T0",
+    "spans before EI to ends of T1",
+    "spans before EI over a single pass",
+    "spans before EI to a byte received",
+    "spans before EI to a byte sent",
     "long spans to a byte received",
     "long spans to a byte sent",
+    "long spans before EI with ends of both timers",
+    "long spans before EI to a byte received or sent",
+    "machines refused for requests before EI",
+    "machines refused for bit 1 of byte 267",
+    "machines refused for bit 2 of byte 267",
+    "machines refused for bit 3 of byte 267",
+    "machines refused for bit 4 of byte 267",
+    "machines refused for bit 5 of byte 267",
+    "machines refused for bit 6 of byte 267",
+    "machines refused for bit 7 of byte 267",
+    "resets of machines after EI",
+    "machines before EI passed",
     "machines refused",
     "machines passed",
 };
@@ -127,12 +166,21 @@ static int port_is_on(const uint8_t *saved)
     return (saved[P3M] & 0x40) != 0;
 }
 
+/* 02, C-13: "held at zero until the first EI after reset". */
+static int requests_are_held(const uint8_t *saved)
+{
+    return !(saved[Z8_AT_BITS] & Z8_EI_EXECUTED);
+}
+
 /* Requests that stand when a grant is decided, less an edge's end of T1. 01: "falling edges on P32, P33, P31,
-   P30 latch requests 0, 1, 2, 3"; 02, C-11: 3 "not from P30" while the port is on. */
+   P30 latch requests 0, 1, 2, 3"; 02, C-11: 3 "not from P30" while the port is on; C-13: none before EI. */
 static unsigned requests_standing(const struct given *g)
 {
     unsigned fell = g->saved[Z8_AT_PORT3] & ~g->pins[3] & (port_is_on(g->saved) ? 0x0Eu : 0x0Fu);
 
+    if (requests_are_held(g->saved)) {
+        return 0;
+    }
     return g->saved[IRQ] | (fell >> 2 & 1) | (fell >> 2 & 2) | (fell << 1 & 4) | (fell << 3 & 8);
 }
 
@@ -154,22 +202,42 @@ static void see_interrupts(const struct given *g)
     saw(RESERVED_ORDERS, asks_for_grant(g) && order_is_reserved(g));
 }
 
+static unsigned lines_that_fell(const struct given *g)
+{
+    return g->saved[Z8_AT_PORT3] & ~g->pins[3] & 0x0Fu;
+}
+
+/* Where T1's ticks come from: 40, or T_IN's mode. */
+static unsigned source_of_t1(const struct given *g)
+{
+    return (g->saved[PRE1] & 2) ? 0x40 : g->saved[TMR] & 0x30u;
+}
+
+static int t1_ends_by_an_edge(const struct given *g)
+{
+    return (lines_that_fell(g) & 2) && source_of_t1(g) == 0 && (g->saved[TMR] & 8)
+           && g->saved[Z8_AT_T1_PRESCALER] == 1 && g->saved[Z8_AT_T1_COUNTER] == 1;
+}
+
+static int single_pass_ended(const struct given *g, const struct outcome *after)
+{
+    return (after->ends0 && !(g->saved[PRE0] & 1)) || (after->ends1 && !(g->saved[PRE1] & 1));
+}
+
 static void see_timers(const struct given *g, const struct outcome *after)
 {
-    unsigned fell = g->saved[Z8_AT_PORT3] & ~g->pins[3] & 0x0Fu;
-    unsigned source = (g->saved[PRE1] & 2) ? 0x40 : g->saved[TMR] & 0x30u;
+    unsigned source = source_of_t1(g);
     int t1_counts = g->saved[TMR] & 8;
 
-    saw(EDGES, fell);
-    saw(EDGE_ENDS, (fell & 2) && source == 0 && t1_counts && g->saved[Z8_AT_T1_PRESCALER] == 1
-                       && g->saved[Z8_AT_T1_COUNTER] == 1);
+    saw(EDGES, lines_that_fell(g));
+    saw(EDGE_ENDS, t1_ends_by_an_edge(g));
     saw(GATE_HIGH, source == 0x10 && t1_counts && (g->pins[3] & 2));
     saw(GATE_LOW, source == 0x10 && t1_counts && !(g->pins[3] & 2));
     saw(T0_ENDS, after->ends0);
     saw(T1_ENDS, after->ends1);
     saw(BOTH_END, after->ends0 && after->ends1);
     saw(MANY_ENDS, after->ends0 > 1 || after->ends1 > 1);
-    saw(SINGLE_PASSES, (after->ends0 && !(g->saved[PRE0] & 1)) || (after->ends1 && !(g->saved[PRE1] & 1)));
+    saw(SINGLE_PASSES, single_pass_ended(g, after));
     saw(T_OUT_FLIPS, after->saved[Z8_AT_T_OUT] != g->saved[Z8_AT_T_OUT]);
 }
 
@@ -371,8 +439,71 @@ static void see_port(const struct given *g, const struct outcome *after)
     saw(PORT_SINGLE_PASSES, on && after->ends0 > 0 && !(g->saved[PRE0] & 1) && under_way(g->saved));
 }
 
+/* ---- The request register before the first EI, and after ---- */
+
+/* LD IRQ,#.. or OR IRQ,#.. of a request. */
+static int stores_a_request(const struct given *g)
+{
+    unsigned pc = pc_of(g), opcode = opcode_of(g);
+
+    return (opcode == 0xE6 || opcode == 0x46)
+           && ref_program(g->image, g->image_length, (uint16_t)(pc + 1)) == IRQ
+           && (ref_program(g->image, g->image_length, (uint16_t)(pc + 2)) & 0x3F);
+}
+
+/* PUSH and CALL with the internal stack: whether a byte comes to lie on IRQ. */
+static int pushes_onto_irq(const struct given *g)
+{
+    unsigned opcode = opcode_of(g), row = opcode & 0xFEu;
+    unsigned bytes = row == 0x70 ? 1 : opcode == 0xD4 || opcode == 0xD6 ? 2 : 0;
+    unsigned below = (g->saved[SPL] + 256u - IRQ) % 256; /* how far IRQ is below the stack pointer */
+
+    return stack_is_internal(g) && 1 <= below && below <= bytes;
+}
+
+/* A step that was not refused, from a machine before EI to one before EI. */
+static void see_held(const struct given *g, const struct outcome *after)
+{
+    unsigned fell = lines_that_fell(g), opcode = opcode_of(g);
+    int master_is_new = !(g->saved[IMR] & 0x80) && (after->saved[IMR] & 0x80);
+
+    saw(HELD_EDGES_P30, (fell & 1) && !port_is_on(g->saved));
+    saw(HELD_EDGES_P31, fell & 2);
+    saw(HELD_EDGES_P32, fell & 4);
+    saw(HELD_EDGES_P33, fell & 8);
+    saw(HELD_T0_ENDS, after->ends0 && !port_is_on(after->saved));
+    saw(HELD_T1_ENDS, after->ends1 && !t1_ends_by_an_edge(g));
+    saw(HELD_EDGE_ENDS, t1_ends_by_an_edge(g));
+    saw(HELD_SINGLE_PASSES, single_pass_ended(g, after));
+    saw(HELD_T_OUT_FLIPS, after->saved[Z8_AT_T_OUT] != g->saved[Z8_AT_T_OUT]);
+    saw(HELD_RECEPTIONS, byte_received(g->saved, after->saved));
+    saw(HELD_SENDS_DONE, byte_sent(g->saved, after->saved));
+    saw(IRQ_DROPS, stores_a_request(g));
+    saw(IRQ_DROPS_BY_STACK, pushes_onto_irq(g));
+    saw(HELD_MASTER_STORES, master_is_new && opcode != 0xBF);
+    saw(HELD_IRETS, opcode == 0xBF && master_is_new);
+}
+
+static void see_requests(const struct given *g, const struct outcome *after)
+{
+    if (after->answer != 0) {
+        return;
+    }
+    if (!requests_are_held(g->saved)) {
+        saw(IRQ_STORES, !asks_for_grant(g) && stores_a_request(g));
+        saw(RELEASED_DIS, !asks_for_grant(g) && opcode_of(g) == 0x8F && after->saved[IRQ]);
+    } else if (requests_are_held(after->saved)) {
+        see_held(g, after);
+    } else {
+        saw(RELEASES, 1);
+        saw(RELEASES_WITH_EDGES, lines_that_fell(g));
+        saw(RELEASES_WITH_ENDS, after->saved[IRQ]);
+    }
+}
+
 void see_step(const struct given *g, const struct outcome *after)
 {
+    see_requests(g, after);
     see_interrupts(g);
     see_timers(g, after);
     see_stack(g, after);
@@ -384,6 +515,10 @@ void see_step(const struct given *g, const struct outcome *after)
 
 void see_run(const struct given *g, const struct outcome *after)
 {
+    int held = requests_are_held(g->saved), still_held = requests_are_held(after->saved);
+
+    saw(HELD_RUN_ENDS, held && still_held && after->ends0 + after->ends1 > 0);
+    saw(RUN_RELEASES, held && !still_held);
     saw(RUN_ENDS, after->ends0 > 0 && after->ends1 > 0 && after->ends0 != after->ends1);
     saw(RUNS_OVER, after->answer == 0 && after->cycles > g->amount);
     saw(RUNS_STOPPED, after->answer == 5 && after->cycles > 0);
@@ -395,12 +530,17 @@ void see_run(const struct given *g, const struct outcome *after)
 void see_span(const struct given *g, const struct outcome *after)
 {
     int gated = !(g->saved[PRE1] & 2) && (g->saved[TMR] & 0x30) == 0x10 && (g->saved[TMR] & 8);
+    int held = requests_are_held(g->saved);
 
+    saw(HELD_SPAN_T0_ENDS, held && after->ends0 > 0 && !port_is_on(g->saved));
+    saw(HELD_SPAN_T1_ENDS, held && after->ends1 > 0);
+    saw(HELD_SPAN_SINGLE_PASSES, held && single_pass_ended(g, after));
+    saw(HELD_SPAN_RECEPTIONS, held && byte_received(g->saved, after->saved));
+    saw(HELD_SPAN_SENDS, held && byte_sent(g->saved, after->saved));
     saw(SPAN_T0_ENDS, after->ends0 > 0);
     saw(SPAN_T1_ENDS, after->ends1 > 0);
     saw(SPANS_WITHOUT_END, after->ends0 + after->ends1 == 0);
-    saw(SPAN_SINGLE_PASSES,
-        (after->ends0 && !(g->saved[PRE0] & 1)) || (after->ends1 && !(g->saved[PRE1] & 1)));
+    saw(SPAN_SINGLE_PASSES, single_pass_ended(g, after));
     saw(SPAN_T_OUT_FLIPS, after->saved[Z8_AT_T_OUT] != g->saved[Z8_AT_T_OUT]);
     saw(SPANS_GATED, gated && !(g->saved[Z8_AT_PORT3] & 2));
     saw(SPAN_FALSE_STARTS, g->saved[Z8_AT_RECEIVER_AWAITS] == 1 && after->saved[Z8_AT_RECEIVER_AWAITS] == 0
@@ -414,8 +554,45 @@ void see_span(const struct given *g, const struct outcome *after)
 
 void see_long_span(const struct given *g, const struct outcome *after)
 {
+    int held = requests_are_held(g->saved);
+
+    saw(HELD_LONG_ENDS, held && after->ends0 > 0 && after->ends1 > 0);
+    saw(HELD_LONG_PORT,
+        held && (byte_received(g->saved, after->saved) || byte_sent(g->saved, after->saved)));
     saw(LONG_RECEPTIONS, byte_received(g->saved, after->saved) && request_is_new(g->saved, after->saved, 3));
     saw(LONG_SENDS, byte_sent(g->saved, after->saved) && request_is_new(g->saved, after->saved, 4));
+}
+
+/* Whether these bytes would be a legal machine with this byte 267 and this IRQ. */
+static int legal_with(const struct given *g, unsigned bits, unsigned irq)
+{
+    uint8_t saved[Z8_SAVED_LEN];
+
+    memcpy(saved, g->saved, Z8_SAVED_LEN);
+    saved[Z8_AT_BITS] = (uint8_t)bits;
+    saved[IRQ] = (uint8_t)irq;
+    return ref_check(saved, Z8_SAVED_LEN) == 0;
+}
+
+void see_check(const struct given *g, const struct outcome *after)
+{
+    unsigned bits = g->saved[Z8_AT_BITS], irq = g->saved[IRQ], bit;
+
+    saw(MACHINES_REFUSED, after->answer == 6);
+    saw(MACHINES_PASSED, after->answer == 0);
+    saw(HELD_MACHINES_PASSED, after->answer == 0 && requests_are_held(g->saved));
+    saw(HELD_REQUESTS_REFUSED,
+        after->answer == 6 && bits == 0 && legal_with(g, bits, 0) && legal_with(g, Z8_EI_EXECUTED, irq));
+    for (bit = 1; bit < 8; bit++) {
+        saw((enum kind)(BITS_REFUSED_1 + bit - 1),
+            after->answer == 6 && (bits & ~Z8_EI_EXECUTED) == 1u << bit
+                && legal_with(g, bits & Z8_EI_EXECUTED, irq));
+    }
+}
+
+void see_reset(const struct given *g, const struct outcome *after)
+{
+    saw(RELEASED_RESETS, after->answer == 0 && !requests_are_held(g->saved));
 }
 
 void tell_what_happened(void)

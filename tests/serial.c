@@ -66,7 +66,8 @@ static void take_over(void)
     ends += expected.ends0;
 }
 
-/* From reset, with the port so, T0 repeating with these P and N, fresh from a load, and P30 high. */
+/* As after reset and an EI, so that requests are latched, with the port so, T0 repeating with these P and N,
+   fresh from a load, and P30 high. */
 static void begin(const char *call, unsigned p3m, unsigned p, unsigned n)
 {
     struct ref_machine m;
@@ -75,6 +76,7 @@ static void begin(const char *call, unsigned p3m, unsigned p, unsigned n)
     g.call = call;
     ref_make(&m, 11, 20);
     ref_save(&m, g.saved);
+    release_requests(g.saved);
     g.saved[P3M] = (uint8_t)p3m;
     g.saved[PRE0] = (uint8_t)(p * 4 + 1);
     g.saved[T0] = (uint8_t)n;
@@ -240,6 +242,60 @@ static void check_loop(unsigned byte, unsigned p3m)
     }
     check(received, g.saved[Z8_AT_RECEIVED], "the byte received");
     check(REQUEST_3 | REQUEST_4, g.saved[IRQ], "both requests");
+}
+
+/* The same before the first EI. C-13: "nothing from the serial port" latches, "the port moves as before". */
+static void check_loop_before_ei(unsigned byte, unsigned p3m)
+{
+    unsigned received = p3m & PARITY ? byte % 128 : byte;
+
+    begin("a byte sent to itself before EI, by runs", p3m, 3, 1);
+    g.number = p3m * 256ul + byte;
+    hold_requests(g.saved);
+    g.saved[Z8_AT_RECEIVED] = (uint8_t)~received;
+    send(byte, HIGH);
+    while (ends < SEND) {
+        check(level(as_sent(byte, p3m), ends), z8_p37(g.saved), "the level on P37");
+        run(2 * 12, pins_of_level(z8_p37(g.saved)));
+        check(0, g.saved[IRQ], "no request");
+    }
+    check(received, g.saved[Z8_AT_RECEIVED], "the byte received");
+    check(0, g.saved[Z8_AT_SENDER_PLACE], "the byte sent");
+    execute(0x9F, 0xFF, 0xFF, HIGH); /* EI */
+    check(0, g.saved[IRQ], "what was not latched doesn't come with EI");
+}
+
+/* The last end of a send, or of a reception, at each of the cycles from before EI to after it: latched are
+   those that come within EI's own six or later. The end is so many cycles after the NOP before EI begins. */
+static void check_last_end_about_ei(unsigned cycles, int receives)
+{
+    begin("the last end of a character about EI", ON, 1, 100);
+    g.number = cycles * 10ul + (unsigned)receives;
+    hold_requests(g.saved);
+    g.saved[Z8_AT_DIVIDER] = (uint8_t)((4 - cycles % 4) % 4);
+    g.saved[Z8_AT_T0_COUNTER] = (uint8_t)((cycles + 3) / 4);
+    g.saved[receives ? Z8_AT_RECEIVER_AWAITS : Z8_AT_SENDER_PLACE] = receives ? 9 : 11;
+    g.saved[receives ? Z8_AT_RECEIVER_ENDS : Z8_AT_SENDER_ENDS] = BIT - 1;
+    nop(HIGH);
+    execute(0x9F, 0xFF, 0xFF, HIGH); /* EI */
+    nop(HIGH);
+    check(1, ends, "one end in these 18 cycles");
+    check(0, g.saved[receives ? Z8_AT_RECEIVER_AWAITS : Z8_AT_SENDER_PLACE], "the character is done");
+    check(cycles <= 6 ? 0 : receives ? REQUEST_3 : REQUEST_4, g.saved[IRQ], "its request");
+}
+
+static void check_before_ei(void)
+{
+    unsigned byte, cycles;
+
+    for (byte = 0; byte < 256; byte++) {
+        check_loop_before_ei(byte, ON);
+        check_loop_before_ei(byte, ON | PARITY);
+    }
+    for (cycles = 1; cycles <= 18; cycles++) {
+        check_last_end_about_ei(cycles, 0);
+        check_last_end_about_ei(cycles, 1);
+    }
 }
 
 static void check_all_bytes(void)
@@ -1025,8 +1081,35 @@ static unsigned ends_left_to_send(unsigned sender)
     return senders[sender].place == 0 ? 0 : (12u - senders[sender].place) * BIT - senders[sender].ends;
 }
 
+/* The port's bytes, and the registers but for IRQ, which is zero, as they are in g after the same ends. */
+static void check_left_before_ei(const struct outcome *o)
+{
+    check(0, o->answer, "a span before EI");
+    check(0, memcmp(o->saved, g.saved, IRQ) != 0, "registers up to IRQ as after EI");
+    check(0, o->saved[IRQ], "no request");
+    check(0, memcmp(o->saved + IMR, g.saved + IMR, Z8_AT_DIVIDER - IMR) != 0, "those after it as after EI");
+    check(0, o->saved[Z8_AT_BITS], "no EI");
+    check(0, memcmp(o->saved + Z8_AT_RECEIVED, g.saved + Z8_AT_RECEIVED, 8) != 0, "the port as after EI");
+}
+
+/* 200 ends and the longest span of the same machine before EI. */
+static void check_two_states_before_ei(const struct given *released)
+{
+    struct given held = *released;
+    struct outcome o;
+
+    held.call = "z8_span before EI from every state of the port";
+    hold_requests(held.saved);
+    held.amount = 4 * 200;
+    note(agree(&held, span_of_reference, span_of_library, 0, &o));
+    check_left_before_ei(&o);
+    held.amount = 4294967295u;
+    span_of_library(&held, &o);
+    check_left_before_ei(&o);
+}
+
 /* From two states: one end; a drawn number of cycles; 200 ends, after which both halves are idle; the longest
-   span, which has to leave what these do. */
+   span, which has to leave what these do; and the last two before EI. */
 static void check_two_states(struct dice *d, unsigned receiver, unsigned sender, unsigned p30)
 {
     unsigned to_receive = ends_left_to_receive(receiver, p30), to_send = ends_left_to_send(sender);
@@ -1053,6 +1136,7 @@ static void check_two_states(struct dice *d, unsigned receiver, unsigned sender,
     check(0, whole.answer, "the longest span");
     check(0, memcmp(whole.saved, g.saved, Z8_AT_DIVIDER) != 0, "its registers are as after 200 ends");
     check(0, memcmp(whole.saved + Z8_AT_RECEIVED, g.saved + Z8_AT_RECEIVED, 8) != 0, "and so is its port");
+    check_two_states_before_ei(&kept);
 }
 
 /* Every number of ends up to 180, of every state of each half. */
@@ -1120,6 +1204,7 @@ int main(void)
     unsigned low_for;
 
     check_all_bytes();
+    check_before_ei();
     check_phases();
     for (low_for = 1; low_for <= BIT; low_for++) {
         check_false_start(low_for, ON);

@@ -53,6 +53,7 @@ static void grant(void)
     m.file[0xF9] = 0x08;
     m.file[0xFB] = 0xBF;
     m.file[0xFA] = 0x3F;
+    m.ei_executed = 1; /* without an EI there is no request */
     step_of("IPR 08, IMR BF, IRQ 3F", m, image, sizeof image);
 }
 

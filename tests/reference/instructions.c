@@ -511,7 +511,7 @@ static void ret(const struct doing *d)
 /* IRET: "FLAGS <- @SP, SP <- SP + 1, PC <- @SP, SP <- SP + 2, IMR(7) <- 1"
    (004:1447). 01: "RET, IRET and POP read, write SP, then load the
    destination"; "an interrupt's FLAGS lie below" the address. Bit 7 of IMR
-   alone moves. */
+   alone moves: IRET is no EI (C-13). */
 static void iret(const struct doing *d)
 {
     uint8_t bytes[3];
@@ -570,16 +570,18 @@ static void jp_IRR(const struct doing *d)
 
 /* ---- CPU control ---- */
 
-/* DI: "IMR (7) <- 0" (004:1375). */
+/* DI: "IMR (7) <- 0" (004:1375). C-13: it "holds nothing again". */
 static void di(const struct doing *d)
 {
     d->m->file[IMR] = (uint8_t)(d->m->file[IMR] & ~IMR_MASTER);
 }
 
-/* EI: "IMR (7) <- 1" (004:1405). */
+/* EI: "IMR (7) <- 1" (004:1405). 02, C-13: "The machine needs to remember
+   whether EI has been executed". */
 static void ei(const struct doing *d)
 {
     d->m->file[IMR] = (uint8_t)(d->m->file[IMR] | IMR_MASTER);
+    d->m->ei_executed = 1;
 }
 
 /* SRP src: "RP <- src"; "Bits 0-3 of the RP are always set to 0"

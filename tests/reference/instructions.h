@@ -1,8 +1,9 @@
 /* An independent reference model of what each instruction of the Zilog Z8601
    and Z8611 does, written from the papers alone: 01-scope.md (01), the 1983
-   manual (004, chapters 3 to 5 and Appendix C), the control-register bits of
-   002 and the opcode maps of 000 and 003. A rule marked HOUSE in 01 decides
-   first, then 01's other sentences, then 004, then 002.
+   manual (004, chapters 3 to 5 and 10 and Appendix C), the control-register
+   bits of 002, the opcode maps of 000 and 003, and change request C-13 of
+   02-change-requests.md (02). 02 decides first, then a rule marked HOUSE in 01,
+   then 01's other sentences, then 004, then 002.
 
    It is stated for legal machines, an image and a data memory of at most 65,536
    bytes each (they may be null where their length is 0). */

@@ -82,6 +82,16 @@ static int parity_is_on(const struct ref_machine *m)
     return (m->file[P3M] & P3M_PARITY) != 0;
 }
 
+/* 02, C-13: "the request register is held at zero until the first EI after
+   reset". 004, 10.4.3: "IRQ is held in a Reset state until an EI instruction is
+   executed", 10.8: "IRQ bits D_0-D_5 are held at 0 until an EI instruction is
+   executed." IMR is not asked: 02, "A store that sets bit 7 of IMR isn't an
+   EI"; C-13, "neither is IRET", "DI holds nothing again; only a reset does". */
+int ref_irq_is_held(const struct ref_machine *m)
+{
+    return !m->ei_executed;
+}
+
 /* C-11: "the port's line while on, else bit 7 of P3's latch". */
 int ref_p37(const struct ref_machine *m)
 {
@@ -161,8 +171,8 @@ static uint8_t read_port1(uint8_t mode, uint8_t latch, uint8_t pins)
    outputs", whatever P3M: C-11, "bit 7 reads its latch and takes stores as in
    01", "P30 reads its pin". "RP's low nibble always reads 0 (HOUSE)." A load
    bit "reads back 0". 004, 10.8, of IRQ: "Bits D_6 and D_7 are not implemented,
-   but reading these bits returns 0", of IMR see above. The rest read their
-   places. */
+   but reading these bits returns 0", of IMR see above; 02, C-13, of IRQ before
+   the first EI: "it reads 0". The rest read their places. */
 uint8_t ref_read(const struct ref_machine *m, const struct ref_pins *pins,
                  uint8_t address)
 {
@@ -200,6 +210,9 @@ uint8_t ref_read(const struct ref_machine *m, const struct ref_pins *pins,
     case IPR:
         return 0xFF;
     case IRQ:
+        if (ref_irq_is_held(m)) {
+            return 0;
+        }
         return (uint8_t)(place & ~IRQ_MISSING);
     case IMR:
         return (uint8_t)(place & ~IMR_MISSING);
@@ -221,6 +234,7 @@ static struct ref_timers take_timers(const struct ref_machine *m)
     t.t0 = m->file[T0];
     t.pre0 = m->file[PRE0];
     t.irq = m->file[IRQ];
+    t.irq_is_held = (uint8_t)ref_irq_is_held(m);
     t.port3 = m->port3;
     t.serial_on = (uint8_t)ref_serial_on(m);
     t.divider = m->divider;
@@ -254,11 +268,12 @@ static void put_timers(struct ref_machine *m, const struct ref_timers *t)
 
    01: "80 to EF and F0 [...] drop stores (HOUSE)." For the ports see above;
    Port 2 and Port 3 have no dropped bits: "Other port stores go to the latch,
-   input bits too (HOUSE)". "IRQ bits 6 and 7 drop stores (HOUSE)." "RP's low
-   nibble always reads 0", and only zero is legal there. "Writing a load bit
-   copies P and N [...]" is ref_write_tmr. "Writing F2 to F5 alone moves no
-   count", so these are plain, as are the rest; bit 6 of IMR is held as
-   stored. */
+   input bits too (HOUSE)". "IRQ bits 6 and 7 drop stores (HOUSE)", and before
+   the first EI all of IRQ does: 02, C-13, "stores to FA are dropped", "by
+   whatever stores (the stack too)" (C-13). "RP's low nibble always reads 0",
+   and only zero is legal there. "Writing a load bit copies P and N [...]" is
+   ref_write_tmr. "Writing F2 to F5 alone moves no count", so these are plain,
+   as are the rest; bit 6 of IMR is held as stored. */
 void ref_write(struct ref_machine *m, uint8_t address, uint8_t byte)
 {
     struct ref_timers t;
@@ -287,7 +302,9 @@ void ref_write(struct ref_machine *m, uint8_t address, uint8_t byte)
         put_timers(m, &t);
         break;
     case IRQ:
-        m->file[IRQ] = (uint8_t)(byte & ~IRQ_MISSING);
+        if (!ref_irq_is_held(m)) {
+            m->file[IRQ] = (uint8_t)(byte & ~IRQ_MISSING);
+        }
         break;
     case RP:
         m->file[RP] = (uint8_t)(byte & ~RP_MISSING);
@@ -470,7 +487,8 @@ void ref_pop(struct ref_machine *m, const struct ref_pins *pins,
    as 0, last pins all ones. R4 to R127, type and entry cost stay". The places
    80 to EF aren't named; they are zero in a legal machine and stay. The serial
    port's is ref_serial_reset; 004, 12.5: "Serial mode and parity are
-   disabled". */
+   disabled". 02, C-13: held "until the first EI after reset", so from here on
+   none has been executed. */
 void ref_reset(struct ref_machine *m)
 {
     int i;
@@ -493,6 +511,7 @@ void ref_reset(struct ref_machine *m)
     m->counter1 = 256;
     m->port3 = 0xFF;
     m->tout = 1;
+    m->ei_executed = 0;
     ref_serial_reset(&m->serial);
 }
 
@@ -522,8 +541,9 @@ int ref_make(struct ref_machine *m, uint32_t type, uint32_t entry_cost)
 /* The saved machine. 01: "0 to 255 the register file in address order; 256 and
    257 the program counter, high byte first; 258 the divider; 259 and 260 T0's
    prescaler and counter; 261 and 262 T1's; 263 the last Port 3 pins; 264 the
-   T_OUT level; 265 the type (1 or 11); 266 the interrupt entry cost; 267
-   zero." z8-requests.h: "01's 268 bytes stay where they are, and eight
+   T_OUT level; 265 the type (1 or 11); 266 the interrupt entry cost". 02, C-13:
+   "whether EI has been executed, in bit 0 of the saved machine's spare byte
+   (267 in 01)". z8-requests.h: "01's 268 bytes stay where they are, and eight
    follow": 268 "the received byte", 269 "the receiver's shift register", 270
    "what the receiver waits for", 271 "T0's ends since its last shift clock, or
    since the start edge", 272 "the transmitter's eight bits", 273 "what is on
@@ -539,7 +559,7 @@ int ref_make(struct ref_machine *m, uint32_t type, uint32_t entry_cost)
 #define AT_TOUT        264
 #define AT_TYPE        265
 #define AT_ENTRY_COST  266
-#define AT_ZERO        267
+#define AT_SPARE       267
 #define AT_RECEIVED          268
 #define AT_SHIFT             269
 #define AT_AWAITS            270
@@ -548,6 +568,9 @@ int ref_make(struct ref_machine *m, uint32_t type, uint32_t entry_cost)
 #define AT_PLACE             273
 #define AT_TRANSMITTER_ENDS  274
 #define AT_PORT_ZERO         275
+
+/* Of the spare byte. */
+#define SPARE_EI_EXECUTED  0x01
 
 static void load_serial(struct ref_serial *s, const uint8_t *saved)
 {
@@ -575,10 +598,12 @@ static void save_serial(const struct ref_serial *s, uint8_t *saved)
 /* 01, refusals 7, "saved machine not 268 bytes", which are 276 now
    (z8-requests.h), and 6, "saved machine not legal", tested in this order.
    "Legal: divider 0 to 3; prescalers 1 to 64; entry cost 6 to 63; T_OUT 0 or
-   1; type 1 or 11; byte 267 zero; places 80 to EF and F0 (hexadecimal) zero;
-   bits 0 and 2 of TMR, 6 and 7 of IRQ, and 0 to 3 of RP zero." F0's place
-   "stays in the legal list" (C-11). The port's bytes are legal by
-   ref_serial_legal, and 275 is "zero". */
+   1; type 1 or 11; [...] places 80 to EF and F0 (hexadecimal) zero; bits 0 and
+   2 of TMR, 6 and 7 of IRQ, and 0 to 3 of RP zero." Of byte 267, which 01 has
+   zero, "the byte's other bits stay zero" (C-13), and "a legal machine that
+   hasn't has IRQ zero" (02), one that has executed no EI. F0's place "stays in
+   the legal list" (C-11). The port's bytes are legal by ref_serial_legal, and
+   275 is "zero". */
 int ref_check(const uint8_t *saved, size_t length)
 {
     struct ref_serial serial;
@@ -606,7 +631,10 @@ int ref_check(const uint8_t *saved, size_t length)
     if (saved[AT_TYPE] != 1 && saved[AT_TYPE] != 11) {
         return 6;
     }
-    if (saved[AT_ZERO] != 0) {
+    if (saved[AT_SPARE] & ~SPARE_EI_EXECUTED) {
+        return 6;
+    }
+    if (!(saved[AT_SPARE] & SPARE_EI_EXECUTED) && saved[IRQ] != 0) {
         return 6;
     }
     for (i = GAP_FIRST; i <= GAP_LAST; i++) {
@@ -671,6 +699,7 @@ void ref_load(struct ref_machine *m, const uint8_t *saved)
     m->tout = saved[AT_TOUT];
     m->type = saved[AT_TYPE];
     m->entry_cost = saved[AT_ENTRY_COST];
+    m->ei_executed = saved[AT_SPARE] & SPARE_EI_EXECUTED;
     load_serial(&m->serial, saved);
 }
 
@@ -692,19 +721,23 @@ void ref_save(const struct ref_machine *m, uint8_t *saved)
     saved[AT_TOUT] = m->tout;
     saved[AT_TYPE] = m->type;
     saved[AT_ENTRY_COST] = m->entry_cost;
-    saved[AT_ZERO] = 0;
+    saved[AT_SPARE] = m->ei_executed ? SPARE_EI_EXECUTED : 0;
     save_serial(&m->serial, saved);
 }
 
 /* One end of T0 while the serial port is on. C-11: "P30's level is that of the
    last pins (in a step or a run the byte given)"; parity of what is received is
-   "as it stands at the transfer". */
+   "as it stands at the transfer". C-13: before the first EI "nothing from the
+   serial port" latches, and "the port moves as before". */
 static void serial_end(struct ref_machine *m, struct ref_timers *t)
 {
     int p30 = (m->port3 & PORT3_P30) != 0;
     struct ref_serial_requests r;
 
     r = ref_serial_end(&m->serial, p30, parity_is_on(m));
+    if (ref_irq_is_held(m)) {
+        return;
+    }
     if (r.request3) {
         t->irq = (uint8_t)(t->irq | IRQ_REQUEST3);
     }

@@ -1,11 +1,12 @@
 /* An independent reference model of the registers, memories, stack, reset,
    saved form and clock of the Zilog Z8601 and Z8611, written from the papers
    alone: 01-scope.md (01), the 1983 manual (004), the control-register bits of
-   002, and change request C-11 of 02-change-requests.md (02) with the points
-   decided for it (C-11) and the bytes of z8-requests.h. 02 decides first, then
-   C-11's points, then a rule marked HOUSE in 01, then 01's other sentences,
-   then 004, then 002. The timers are those of timers.h, by single cycles, and
-   the serial port that of serial.h, by single ends of T0.
+   002, and change requests C-11 and C-13 of 02-change-requests.md (02) with the
+   points decided for them (C-11, C-13) and the bytes of z8-requests.h. 02
+   decides first, then the requests' points, then a rule marked HOUSE in 01,
+   then 01's other sentences, then 004, then 002. The timers are those of
+   timers.h, by single cycles, and the serial port that of serial.h, by single
+   ends of T0.
 
    It is stated for legal machines (01: "Legal: ..."). Compare machines by
    ref_save, as the struct may have padding. */
@@ -31,6 +32,8 @@ struct ref_machine {
     uint8_t tout;                      /* T_OUT level, 0 or 1 */
     uint8_t type;                      /* 1 or 11 */
     uint8_t entry_cost;                /* 6 to 63 */
+    uint8_t ei_executed;               /* 1 where EI has been executed since
+                                          reset, else 0, and then IRQ is 0 */
     struct ref_serial serial;
 };
 
@@ -41,6 +44,9 @@ struct ref_pins {
 
 /* 1 where the serial port is on, else 0. */
 int ref_serial_on(const struct ref_machine *m);
+
+/* 1 where the request register is held at zero, else 0. */
+int ref_irq_is_held(const struct ref_machine *m);
 
 /* The level on pin P37, 0 or 1. */
 int ref_p37(const struct ref_machine *m);

@@ -49,8 +49,13 @@
 
 /* ---- Pins ---- */
 
+/* 02, C-13: "the request register is held at zero until the first EI after
+   reset. Until then edges [...] latch nothing". */
 static void latch(struct ref_machine *m, int request)
 {
+    if (ref_irq_is_held(m)) {
+        return;
+    }
     m->file[IRQ] = (uint8_t)(m->file[IRQ] | REQUEST(request));
 }
 
@@ -67,6 +72,7 @@ static uint32_t edge_of_P31(struct ref_machine *m)
     t.t0 = m->file[T0];
     t.pre0 = m->file[PRE0];
     t.irq = m->file[IRQ];
+    t.irq_is_held = (uint8_t)ref_irq_is_held(m);
     t.port3 = m->port3;
     t.serial_on = (uint8_t)ref_serial_on(m);
     t.divider = m->divider;
@@ -93,11 +99,11 @@ static uint32_t edge_of_P31(struct ref_machine *m)
    becomes the last" (HOUSE), all eight bits of it. A line falls where it was 1
    and is 0. Answers T1's ends: 01, "each timer's ends, edge ends too".
 
-   01: "Requests are latched at all times from reset (HOUSE)", so neither IMR
-   nor an EI is asked (004, 10.8, has IRQ "held at 0 until an EI instruction is
-   executed"; 01 decides). 004, 11.5: "Each High-to-Low transition on T_IN
-   generates interrupt request IRQ_2, regardless of the selected T_IN mode or
-   the enabled/disabled state of T_1."
+   Whether a request is latched goes by C-13's rule, and IMR is not asked; the
+   lines are compared and become the last either way. C-13: "In EI's own step
+   the edges are compared before it and latch nothing." 004, 11.5: "Each
+   High-to-Low transition on T_IN generates interrupt request IRQ_2, regardless
+   of the selected T_IN mode or the enabled/disabled state of T_1."
 
    Of P3M its bit 6 is asked, for P30 alone. 02, C-11: "Requests 3 and 4 come
    from the port while it is on and not from P30 or T0" (so 004, 10.2.1: IRQ_3
@@ -267,7 +273,8 @@ static uint32_t grant(struct ref_machine *m, int request,
    requests as they stand after the edges, an edge's end of T1 with them, and a
    step that grants fetches no opcode. C-11: "Ends within that step's own cycles
    count already", of a start bit, and "A step's store to P3M or F0 acts before
-   its own cycles."
+   its own cycles." C-13, of EI: "ends in its own six cycles come after it and
+   latch".
 
    Refusal 5: "opcode undefined [...] step and decode: the same", that is
    "number alone, nothing changed". The edges come before the opcode is met, so

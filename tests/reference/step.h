@@ -1,10 +1,10 @@
 /* An independent reference model of one step (pins, interrupts, one
    instruction, clock) and of the bounded run of the Zilog Z8601 and Z8611,
    written from the papers alone: 01-scope.md (01), the 1983 manual (004,
-   chapters 10 to 12), the control-register bits of 002, and change request C-11
-   of 02-change-requests.md (02) with the points decided for it (C-11). 02
-   decides first, then C-11's points, then a rule marked HOUSE in 01, then 01's
-   other sentences, then 004, then 002.
+   chapters 10 to 12), the control-register bits of 002, and change requests
+   C-11 and C-13 of 02-change-requests.md (02) with the points decided for them
+   (C-11, C-13). 02 decides first, then the requests' points, then a rule marked
+   HOUSE in 01, then 01's other sentences, then 004, then 002.
 
    It is stated for legal machines, an image and a data memory of at most 65,536
    bytes each (they may be null where their length is 0). */

@@ -71,7 +71,16 @@ static inline void flip(struct ref_timers *t)
     }
 }
 
-/* T0 ends. */
+/* 02, C-13: before the first EI "timer ends latch nothing". */
+static inline void latch(struct ref_timers *t, uint8_t request)
+{
+    if (!t->irq_is_held) {
+        t->irq = (uint8_t)(t->irq | request);
+    }
+}
+
+/* T0 ends. 02, C-13, before the first EI too: "Ends are counted and T_OUT flips
+   as before." */
 static inline void end0(struct ref_timers *t)
 {
     t->ends0 = t->ends0 + 1;
@@ -89,7 +98,7 @@ static inline void end0(struct ref_timers *t)
        the port while it is on and not from P30 or T0." 004, 12.2: then "T_0's
        end-of-count signal no longer generates interrupt request IRQ_4". */
     if (!t->serial_on) {
-        t->irq = (uint8_t)(t->irq | IRQ_T0);
+        latch(t, IRQ_T0);
     }
 
     /* 01: "The end of the timer chosen by TMR bits 7 and 6 [...] flips
@@ -99,7 +108,7 @@ static inline void end0(struct ref_timers *t)
     }
 }
 
-/* T1 ends. */
+/* T1 ends, and the same holds. */
 static inline void end1(struct ref_timers *t)
 {
     t->ends1 = t->ends1 + 1;
@@ -114,7 +123,7 @@ static inline void end1(struct ref_timers *t)
     }
 
     /* 01: T0's end latches request 4, "T1's request 5". */
-    t->irq = (uint8_t)(t->irq | IRQ_T1);
+    latch(t, IRQ_T1);
 
     /* 01: "The end of the timer chosen by TMR bits 7 and 6 [...] flips
        T_OUT." */

@@ -1,9 +1,9 @@
 /* An independent reference model of the two counter/timers of the Zilog Z8601
    and Z8611, written from the papers alone: 01-scope.md (house rules), the 1983
    manual (source document 004, chapter 11) and the control-register bits of
-   002. Where they differ, 01 decides, then 004, then 002. Change request C-11
-   of 02-change-requests.md (02) corrects 01. It is stated for legal values
-   only, as given beside each field. */
+   002. Where they differ, 01 decides, then 004, then 002. Change requests C-11
+   and C-13 of 02-change-requests.md (02) correct 01. It is stated for legal
+   values only, as given beside each field. */
 #ifndef REFERENCE_TIMERS_H
 #define REFERENCE_TIMERS_H
 
@@ -14,6 +14,7 @@ struct ref_timers {
                                           the start value of T1, PRE1, the
                                           start value of T0, PRE0 */
     uint8_t irq;                       /* register FA */
+    uint8_t irq_is_held;               /* nonzero before the first EI */
     uint8_t port3;                     /* the last Port 3 pins; P31 is bit 1 */
     uint8_t serial_on;                 /* nonzero where the serial port is */
     uint8_t divider;                   /* 0 to 3 */
