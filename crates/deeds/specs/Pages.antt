@@ -95,7 +95,7 @@ pairedDeed p m d w i =
     let dst = oneAt p m w i in
     deed.StoreWord dst (pairedOf d (readPair p m dst))
 
--- DI, "Disable Interrupts", and EI, "Enable Interrupts"
+-- DI: IMR (7) <-- 0. EI: IMR (7) <-- 1, and IRQ is released (02, C-13).
 abbrev pub diDeed : Deed
 diDeed = deed.DisableInterrupts
 

@@ -71,8 +71,8 @@ returned m to = withPc (raised m 2) to
 unfoldable pub interruptsTo : Machine → Bool → Machine
 interruptsTo m on = placed m IMR (held m IMR % 128 + bitsIf on 0x80)
 
--- EI: IMR (7) <-- 1, and IRQ, "held in a Reset state until an EI instruction is executed" (004, 10.4.3), is released (02, C-13). Nothing else releases
--- it, not IRET or a store, which may set IMR's bit 7 too; and DI holds nothing again.
+-- EI: IMR (7) <-- 1, and IRQ, "held in a Reset state until an EI instruction is executed" (004, 10.4.3), is released (02, C-13). Nothing else
+-- releases it, not IRET or a store, which may set IMR's bit 7 too; and DI holds nothing again.
 unfoldable pub interruptsEnabled : Machine → Machine
 interruptsEnabled m = withReleased (interruptsTo m true) true
 

@@ -21,8 +21,8 @@ use Rattle.machine.specs.declared.Machine.{Machine}
 unfoldable pub fell : ℕ → ℕ → ℕ → Bool
 fell n last given = isSet n last && not (isSet n given)
 
--- "falling edges on P32, P33, P31, P30 latch requests 0, 1, 2, 3": the request register after them, where it is released (`latch` of `timers`).
--- Request 3 comes "from the port while it is on and not from P30" (02, C-11).
+-- "falling edges on P32, P33, P31, P30 latch requests 0, 1, 2, 3": the request register after them. Request 3 comes "from the port while it
+-- is on and not from P30" (02, C-11).
 unfoldable pub latchedBy : Bool → ℕ → ℕ → RequestRegister → RequestRegister
 latchedBy on last given r =
     let r₀ = latchedIf (fell 2 last given) 0 r in

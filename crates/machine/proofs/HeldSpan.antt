@@ -1,6 +1,6 @@
--- A span of a machine before its first EI (02, C-13: "Until then edges and timer ends latch nothing"; "Ends are counted and T_OUT flips as before"). That the
--- move by division is the single cycles, the request register in it, is the contract of `clock::span`. Here is what those cycles come to: a span
--- releases nothing; held, IRQ stays zero; and all else moves as it does released.
+-- A span of a machine before its first EI (02, C-13: "Until then edges and timer ends latch nothing"; "Ends are counted and T_OUT flips as
+-- before"). That the move by division is the single cycles, the request register in it, is the contract of `clock::span`. Here is what those
+-- cycles come to: a span releases nothing; held, IRQ stays zero; and all else moves as it does released.
 use mathlib.Core.Path.{_≡_, _∙_, refl, ap, sym, subst}
 use mathlib.Core.Logic.{_≢_}
 use mathlib.Core.Bool.{true, false}

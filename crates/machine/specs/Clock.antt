@@ -23,7 +23,8 @@ controlWith m tmr =
 unfoldable pub controlOf : Machine → Control
 controlOf m = controlWith m (held m TMR)
 
--- what cycles move: the divider, the counts in progress with the enable bits that stand in TMR, the request register, T_OUT, the serial port
+-- what cycles move: the divider, the counts in progress with the enable bits that stand in TMR, the request register, T_OUT, the serial
+-- port
 unfoldable pub movingOf : Machine → Moving
 movingOf m =
     record {
@@ -59,8 +60,8 @@ coreAt k x = countingAt k (x .divider) (x .t0 .timer) (x .t1 .timer) (x .lines .
 unfoldable pub countsAt : Machine → Moving → Machine
 countsAt m x = whole (m .regs) (coreAt (coreOf m) x)
 
--- the machine with all that cycles move as given: the counts, the serial port, the enable bits in TMR, and the request register, which is IRQ and
--- the mark of an EI. (No cycle and no edge changes the mark: `span-releases-none`, `compare-releases-none`.)
+-- the machine with all that cycles move as given: the counts, the serial port, the enable bits in TMR, and the request register, which is
+-- IRQ and the mark of an EI. (No cycle and no edge changes the mark: `span-releases-none`, `compare-releases-none`.)
 unfoldable pub movedTo : Machine → Moving → Machine
 movedTo m x =
     let r = x .lines .requests in

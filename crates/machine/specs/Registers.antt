@@ -38,8 +38,8 @@ readPort p m a = portReads (portDirections m a) (pinsOf p a) (held m a)
 unfoldable pub writePort : Machine → ℕ → ℕ → Machine
 writePort m a v = placed m a (portStores (portDirections m a) (held m a) v)
 
--- a store to IRQ drops bits 6 and 7 (HOUSE). Until an EI has been executed "stores to FA are dropped" (02, C-13), and as nothing else sets a bit of
--- it, "it reads 0".
+-- a store to IRQ drops bits 6 and 7 (HOUSE). Until an EI has been executed "stores to FA are dropped" (02, C-13); and as nothing else sets
+-- a bit of it then, "it reads 0".
 unfoldable pub writeIrq : Machine → ℕ → Machine
 writeIrq m v = pick (m .released) (placed m IRQ (v % 64)) m
 
@@ -55,9 +55,9 @@ readReg p m a =
     (pick (eqb a IMR) (bitAnd (held m a) 0xBF)
     (held m a))))))
 
--- a store of v to register a: a hole drops it, SIO (F0) sends it while the serial port is on, TMR (F1) acts on its load bits, IRQ (FA) takes
--- it once an EI has been executed, and RP (FD) drops its low nibble, which "always reads 0 (HOUSE)". All others hold what is stored: "F2 and F4
--- hold start values".
+-- a store of v to register a: a hole drops it, SIO (F0) sends it while the serial port is on, TMR (F1) acts on its load bits, IRQ (FA)
+-- takes it once an EI has been executed, and RP (FD) drops its low nibble, which "always reads 0 (HOUSE)". All others hold what is stored: "F2
+-- and F4 hold start values".
 unfoldable pub writeReg : Machine → ℕ → ℕ → Machine
 writeReg m a v =
     pick (ltb a 0x04) (writePort m a v)

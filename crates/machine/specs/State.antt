@@ -1,7 +1,7 @@
--- The machine, and the places of its register file (01 "Numbers the encoder sees"). Of a `Machine`, `regs` is the register file, `pc` the program
--- counter, `divider` the divider, `t0` and `t1` the counts in progress, `last3` the last Port 3 pins, `tout` the T_OUT level, `kind` the type, 1 or 11,
--- `cost` the interrupt entry cost, `released` whether an EI has been executed since the last reset (02, C-13), and `port` the serial port (02,
--- C-11). A `Core` is the same without the file; below it is called the machine's rest.
+-- The machine, and the places of its register file (01 "Numbers the encoder sees"). Of a `Machine`, `regs` is the register file, `pc` the
+-- program counter, `divider` the divider, `t0` and `t1` the counts in progress, `last3` the last Port 3 pins, `tout` the T_OUT level, `kind`
+-- the type, 1 or 11, `cost` the interrupt entry cost, `released` whether an EI has been executed since the last reset (02, C-13), and `port`
+-- the serial port (02, C-11). A `Core` is the same without the file; below it is called the machine's rest.
 use mathlib.Core.Bool.{Bool}
 use mathlib.Core.List.{List}
 use Prim.Native.Nat.{ℕ}

@@ -1,5 +1,5 @@
--- 01's proved examples, as 02 corrects them, one list: each is a test on the definitions, from the bytes of an instruction, a step or a span of a machine to
--- what is left.
+-- 01's proved examples, as 02 corrects them, and two of 02, C-13, one list: each is a test on the definitions, from the bytes of an
+-- instruction, a step or a span of a machine to what is left.
 use Prim.Native.Nat.{ℕ}
 use mathlib.Core.Bool.{Bool, true, false, _&&_}
 use mathlib.Core.List.{List, [], _∷_, _++_}

@@ -1,5 +1,5 @@
--- The request register and the clock (02, C-13). Held, the register stays as it is, whatever ends; held or released, it stays so through cycles and
--- edges; and whichever it is, the divider, the timers, their ends, T_OUT and the serial port move alike.
+-- The request register and the clock (02, C-13). Held, the register stays as it is, whatever ends; held or released, it stays so through
+-- cycles and edges; and whichever it is, the divider, the timers, their ends, T_OUT and the serial port move alike.
 use mathlib.Core.Path.{_≡_, refl, ap, sym, _∙_}
 use mathlib.Core.Bool.{Bool, true, false}
 use Prim.Native.Nat.{ℕ, _+_, _%_, _<_}

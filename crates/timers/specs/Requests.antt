@@ -1,5 +1,5 @@
--- The request register IRQ, whose "Bits D_0-D_5 are assigned to interrupt requests" 0 to 5 (004, 10.4.3): `irq` is what it holds, and `released` whether
--- an EI has been executed since the last reset.
+-- The request register IRQ, whose "Bits D_0-D_5 are assigned to interrupt requests" 0 to 5 (004, 10.4.3). Of a `RequestRegister`, `irq` is
+-- what it holds, and `released` whether an EI has been executed since the last reset.
 use mathlib.Core.Bool.{Bool}
 use Prim.Native.Nat.{ℕ, _^_}
 use lib.Bits.{bitOr}
