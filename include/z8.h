@@ -76,8 +76,8 @@ uint32_t z8_version(void);
    A kept machine is carried over so:
 
      - from before version 3: byte 267 was always 0, which now says that EI has not been executed. If you know that it had been, since the
-       machine was made or last reset, set Z8_EI_EXECUTED. Without it a machine whose IRQ is not zero is refused with 6, and one whose IRQ
-       is zero goes on, but with its requests held until its next EI.
+       machine was made or last reset, set Z8_EI_EXECUTED, and it goes on as it did. Without it a machine whose IRQ is not zero is refused
+       with 6, and one whose IRQ is zero goes on, but latches no request until its next EI.
      - from before version 2, when it had 268 bytes: append 00 FF 00 00 FF 00 00 00 (hexadecimal), too: nothing received, and nothing under
        way. Its serial port is on where bit 6 of P3M is set, which did nothing then. */
 
@@ -105,7 +105,7 @@ uint32_t z8_version(void);
 #define Z8_AT_SENDER_ENDS 274u     /* T0's ends since that began: 0 where the byte before is 0, else 0 to 15 */
 #define Z8_AT_PORT_ZERO 275u       /* 0 */
 
-/* Of the byte at Z8_AT_BITS: set once EI has been executed since the machine was made or last reset. While it is clear, requests are held:
+/* Of the byte at Z8_AT_BITS: set once EI has been executed since the machine was made or last reset. While it is clear, IRQ is held at zero:
    see "Time" below. */
 
 #define Z8_EI_EXECUTED 0x01u
@@ -122,7 +122,7 @@ uint32_t z8_version(void);
 #define Z8_P3M 0xF7u   /* Port 3 mode: bit 6 set, the serial port is on; bit 7 set, with odd parity; its other bits do nothing */
 #define Z8_P01M 0xF8u  /* Ports 0 and 1 mode */
 #define Z8_IPR 0xF9u   /* interrupt priority */
-#define Z8_IRQ 0xFAu   /* interrupt request: zero until the first EI */
+#define Z8_IRQ 0xFAu   /* interrupt request: held at zero until the first EI */
 #define Z8_IMR 0xFBu   /* interrupt mask */
 #define Z8_FLAGS 0xFCu /* flags */
 #define Z8_RP 0xFDu    /* register pointer */
@@ -181,10 +181,11 @@ uint32_t z8_encode(uint8_t opcode, uint8_t first, uint8_t second,
    (Z8_AT_PORT3). Where nothing is connected, pass FF: after making or a reset the last pins are all ones, so a first pins3 of 0 is a
    falling edge of each.
 
-   Requests are held until the first EI after making or a reset: till then no edge, no end of a timer and nothing of the serial port latches
-   one, and FA reads 0 and drops stores, by whatever stores. All else goes on: ends are counted, T_OUT flips, a single pass stops, an edge
-   of P31 ticks T1, the port sends and receives. EI alone releases them: no store to IMR does, though it set bit 7, and no IRET; and DI does
-   not hold them again. In EI's own step the edges come before it and latch nothing, and ends within its cycles come after it and latch. */
+   The request register, IRQ (FA), is held at zero until the first EI after making or a reset: till then no edge, no end of a timer and
+   nothing of the serial port latches a request, and none comes later for it; FA reads 0 and drops stores, by whatever stores. All else goes
+   on: ends are counted, T_OUT flips, a single pass stops, an edge of P31 ticks T1, the port sends and receives. EI alone releases IRQ: no
+   store to IMR does, though it set bit 7, and no IRET. DI does not hold it again; z8_reset alone does. In EI's own step the edges come
+   before it and latch nothing, and ends within its cycles come after it and latch. */
 
 /* One step: the pins are compared with the last ones, an interrupt is granted or else one instruction executed, and the clock goes on by
    what that costs. Writes the machine, what was stored in data memory, the cycles (6 to 63), and how often T0 and T1 ended.
@@ -203,7 +204,7 @@ uint32_t z8_run(uint8_t *saved, size_t saved_len, const uint8_t *image, size_t i
                 uint32_t *cycles, uint32_t *ends0, uint32_t *ends1);
 
 /* The clock alone, for any number of cycles: divider, both timers, T_OUT, the serial port while it is on, the requests that these latch
-   unless they are held, and the enable bit in TMR (F1) that the end of a single pass clears. No instruction is executed and no pins are
+   once EI has been executed, and the enable bit in TMR (F1) that the end of a single pass clears. No instruction is executed and no pins are
    compared, so no start bit is found; P30 and P31 are as in the last pins. By division: a long span takes no longer than a short one.
    Refuses with 7, 6. */
 uint32_t z8_span(uint8_t *saved, size_t saved_len, uint32_t span,
@@ -219,7 +220,7 @@ uint32_t z8_span(uint8_t *saved, size_t saved_len, uint32_t span,
    after the store. A store before that begins anew with the new byte, and no request comes for the lost one. A falling edge of P30 while
    no character is coming in is a start bit: the 8th end after it looks at P30 again, and high takes the edge back; from there every 16th
    end takes a bit, the lowest first. With the eighth, at the 136th end, the byte is received and request 3 comes; no stop bit is looked at.
-   P30's edges latch no request 3, and T0's ends no request 4. Before the first EI both requests are held, as all are.
+   P30's edges latch no request 3, and T0's ends no request 4. Before the first EI neither request comes.
 
    Parity is odd, and there while bit 7 of P3M is set. Set at the store, it has bit 7 of the byte replaced so that the eight bits have an
    odd number of ones. Set when a byte is received, it has bit 7 become 1 where their number was even, an error, and 0 where it was odd.

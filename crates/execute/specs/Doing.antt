@@ -67,7 +67,7 @@ popped m dst v = writeReg (raised m 1) dst v
 unfoldable pub returned : Machine → ℕ → Machine
 returned m to = withPc (raised m 2) to
 
--- IMR (7) <-- 1 or 0: EI, DI, IRET. Its other bits stay.
+-- IMR (7) <-- 1 or 0: EI, DI, IRET, and a grant. Its other bits stay.
 unfoldable pub interruptsTo : Machine → Bool → Machine
 interruptsTo m on = placed m IMR (held m IMR % 128 + bitsIf on 0x80)
 

@@ -1,4 +1,4 @@
--- FA, while IRQ is held and once it is released (02, C-13). Only these laws open `writeIrq`.
+-- FA, while IRQ is held and once it is released (02, C-13). In this room only these laws open `writeIrq`.
 use mathlib.Core.Path.{_≡_}
 use mathlib.Core.Bool.{true, false}
 use Prim.Native.Nat.{ℕ, _%_}

@@ -1,4 +1,4 @@
--- Reset, and the new machine (01 "One step", "Numbers the encoder sees"; 004, table 8-1).
+-- Reset, and the new machine (01 "One step", "Numbers the encoder sees"; 02, C-13; 004, table 8-1 and 10.8).
 use mathlib.Core.Bool.{Bool, true, false, _&&_, _||_}
 use mathlib.Core.List.{List, [], _∷_}
 use Prim.Native.Nat.{ℕ}

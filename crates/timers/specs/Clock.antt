@@ -29,7 +29,7 @@ flips drives tout = pick drives (not tout) tout
 unfoldable pub endOf : Setup → Lines → Lines
 endOf s l = record { requests = latch (s .request) (l .requests); tout = flips (s .drives) (l .tout); port = l .port }
 
--- "Requests 3 and 4 come from the port while it is on" (02, C-11): IRQ with those that the port asks for
+-- "Requests 3 and 4 come from the port while it is on" (02, C-11): the request register with those that the port asks for
 unfoldable pub askedFor : Bool → Bool → RequestRegister → RequestRegister
 askedFor asked3 asked4 r = latchedIf asked3 3 (latchedIf asked4 4 r)
 
