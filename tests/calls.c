@@ -364,8 +364,8 @@ static void add_illegal_byte(unsigned place, unsigned byte, const char *what)
     add_fault(6, fault_byte, place + 1000 * byte, what);
 }
 
-/* 01: "Legal: [...]", each rule broken alone at the edges of its range; C-13's two rules, "the byte's other
-   bits stay zero" with each of these bits, and "IRQ zero" with each request; and the serial port's. */
+/* 01: "Legal: [...]", each rule broken alone at the edges of its range; C-13's two rules, the other bits of byte 267
+   zero, with each of these bits, and "IRQ zero", with each request; and the serial port's. */
 static void add_illegal_machines(void)
 {
     uint32_t k;
@@ -652,8 +652,8 @@ static void check_every_value_of_every_place(void)
     }
 }
 
-/* C-13: bit 0 of byte 267 is 0 or 1 and "the byte's other bits stay zero", and a machine with it clear "has
-   IRQ zero", where one with it set has IRQ as in 01. */
+/* C-13: of byte 267 bit 0 is 0 or 1, and 01's "byte 267 zero" stays for the others; "a legal machine that hasn't has
+   IRQ zero", where one that has executed EI has IRQ as in 01. */
 static uint32_t refusal_of_requests(unsigned bits, unsigned irq)
 {
     return bits > 1 || irq > 0x3F || (bits == 0 && irq != 0) ? 6 : 0;
@@ -802,8 +802,8 @@ static void step_with_edges(uint8_t *m, uint8_t opcode)
 }
 
 /* z8.h: "from before version 3: byte 267 was always 0 [...] If you know that it had been [executed], set
-   Z8_EI_EXECUTED. Without it a machine whose IRQ is not zero is refused with 6, and one whose IRQ is zero
-   goes on, but with its requests held until its next EI." */
+   Z8_EI_EXECUTED, and it goes on as it did. Without it a machine whose IRQ is not zero is refused with 6, and
+   one whose IRQ is zero goes on, but latches no request until its next EI." */
 static void check_carried_over_ei(void)
 {
     uint8_t kept[Z8_SAVED_LEN], known[Z8_SAVED_LEN];

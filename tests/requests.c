@@ -1,7 +1,7 @@
 /* The request register before the first EI and after it (02, C-13; 004, 10.4.3 and 10.8): the library beside
-   the reference in every byte, at every step and span, through all that can latch a request, store to FA, or
-   seem an EI, gone through whole. Beside that comparison each part checks by itself what 02, the manual or a
-   decided point says of it.
+   the reference in every byte, at every step and at every span short enough for it, through edges, ends, stores
+   to FA and what may seem an EI, gone through whole. (The serial port's requests are serial.c's.) Beside that
+   comparison each part checks by itself what 02, the manual or a point decided for C-13 says of it.
 
    Held is a machine that has executed no EI since its reset, released one that has. */
 #include <stdio.h>
@@ -22,7 +22,8 @@ enum { IPR = 0xF9, IRQ = 0xFA, IMR = 0xFB, FLAGS = 0xFC, RP = 0xFD, SPL = 0xFF }
 enum { NOP = 0xFF, EI = 0x9F, DI = 0x8F, IRET = 0xBF };
 enum { SIX = 6 };       /* their cycles, but for IRET's */
 enum { MASTER = 0x80 }; /* of IMR */
-enum { REQUEST_3 = 0x08, REQUEST_4 = 0x10, REQUEST_5 = 0x20 };
+enum { REQUEST_4 = 0x10, REQUEST_5 = 0x20 };
+enum { ENTRY_COST = 20 };
 
 static unsigned long checks, failed;
 
@@ -65,7 +66,7 @@ static void begin(const char *call, unsigned long number)
     memset(&g, 0, sizeof g);
     g.call = call;
     g.number = number;
-    ref_make(&m, 11, 20);
+    ref_make(&m, 11, ENTRY_COST);
     ref_save(&m, g.saved);
     g.saved[IPR] = 0x08;
     g.saved[SPL] = 0x70;
@@ -174,14 +175,13 @@ static void check_edges(unsigned fell, int port_on)
 static void check_edge_is_granted(unsigned line)
 {
     begin("an edge after EI is granted", line);
-    memset(image, 0x12, 12);
     g.saved[IMR] = 0x3F;
     single(NOP, 0xFF & ~(1u << line));
     single(EI, 0xFF);
     single(NOP, 0xFF);
     check(1, g.saved[Z8_AT_PC + 1], "no grant of an edge before EI");
     single(NOP, 0xFF & ~(1u << line));
-    check(20, expected.cycles, "an interrupt's entry");
+    check(ENTRY_COST, expected.cycles, "an interrupt's entry");
     check(0x3F, g.saved[IMR], "which clears bit 7 of IMR");
     check(Z8_EI_EXECUTED, g.saved[Z8_AT_BITS], "and holds nothing");
 }
@@ -239,7 +239,7 @@ static void next_end_after(enum timer timer, uint32_t cycles, unsigned repeats)
 }
 
 /* EI was the instruction after so many NOPs, and the end came at that cycle: it is latched where EI had been
-   executed by then. C-13: "ends in its own six cycles come after it and latch". */
+   executed by then. 01's order: the clock comes last, so that the ends in EI's own six cycles latch. */
 static void check_one_end(enum timer timer, unsigned nops, unsigned cycle, unsigned repeats)
 {
     const unsigned request = timer == TIMER_0 ? REQUEST_4 : REQUEST_5;
@@ -314,7 +314,7 @@ static void fill_memory(void)
 
 #define POINTER 0x20u
 
-/* A machine before one of the instructions below: no register is zero, and R0, R1 and R6 of group 10 and
+/* A machine before one of the instructions below: no general register is zero, and R0 and R1 of group 10 and
    register 20 point at the given address, with the internal stack's top about it or not. */
 static void begin_way(const char *call, unsigned long number, unsigned target, unsigned group, unsigned stack)
 {
@@ -380,8 +380,8 @@ static void every_way(const uint8_t operands[FIELDS], for_a_way *f)
 
 static unsigned long masters_stored, irets;
 
-/* 02: "A store that sets bit 7 of IMR isn't an EI"; C-13: "and neither is IRET", "DI holds nothing again". So
-   whatever is executed, a held machine is released by EI alone, and a released one is not held again. */
+/* 02: "A store that sets bit 7 of IMR isn't an EI"; decided for C-13: neither is IRET, and DI holds nothing again.
+   So whatever is executed, a held machine is released by EI alone, and a released one is not held again. */
 static void check_whether_an_ei(unsigned long number, const uint8_t bytes[3], unsigned group, unsigned stack)
 {
     begin_way("what is an EI", number, IMR, group, stack);
@@ -421,7 +421,7 @@ static void check_stores_to_imr(void)
     }
 }
 
-/* FLAGS, and the address of the instruction before EI, from the stack. */
+/* IRET before EI, with FLAGS and an address on the stack. */
 static void check_iret(void)
 {
     begin("IRET before EI", 0);
@@ -467,8 +467,8 @@ static void check_as_released(const struct outcome *released, const uint8_t byte
     check(released->cycles, expected.cycles, "the cycles as ever");
 }
 
-/* C-13: "stores to FA are dropped, by whatever stores (the stack too), and it reads 0", so that flags and all
-   else go as with a request register that is zero. With other requests standing, what it stores is seen. */
+/* 02: "stores to FA are dropped and it reads 0", whatever stores, so that flags and all else go as with a request
+   register that is zero. With other requests standing, what it stores is seen. */
 static void check_store(unsigned long number, const uint8_t bytes[3], unsigned group, unsigned stack)
 {
     static const char call[] = "a way to store to FA";
@@ -533,8 +533,8 @@ static void check_ways_were_seen(void)
     }
 }
 
-/* Every byte, by LD and by OR: C-13, "OR IRQ,#n before EI reads 0, its flags go by n, its store is dropped".
-   004, 5: OR's flags are Z, S and V, which is 0. */
+/* Every byte, by LD and by OR: OR IRQ,#n before EI reads 0, so its flags go by n, and its store is dropped. 004, 5:
+   OR's flags are Z, S and V, which is 0. */
 static void check_every_byte(void)
 {
     unsigned byte;
@@ -584,36 +584,43 @@ static void check_pairs(void)
     }
 }
 
-/* An interrupt's three bytes with each of them on FA: a held machine has no request to be granted, a released
-   one keeps what is pushed but for bits 6 and 7 and the request granted. */
+/* An interrupt's three bytes with each of them on FA. A held machine has no request to be granted. */
+static void check_no_entry(unsigned stack)
+{
+    begin("an interrupt's entry onto FA before EI", stack);
+    g.saved[IMR] = 0x81;
+    g.saved[SPL] = (uint8_t)stack;
+    single(NOP, 0xFB); /* P32 falls */
+    check(SIX, expected.cycles, "nothing is granted");
+    check_held("no entry before EI");
+}
+
+/* A released one keeps what is pushed but for bits 6 and 7, and the request granted, 0, which is cleared then. */
 static void check_entry_onto_irq(unsigned stack)
 {
-    static const uint8_t pushed[3] = {0xB7, 0x00, 0x00}; /* FLAGS, PC high, PC low */
-    int released;
+    static const uint8_t pushed[3] = {0xB7, 0x56, 0xAB}; /* FLAGS, PC high, PC low: each with bits that stay */
 
-    for (released = 0; released < 2; released++) {
-        begin("an interrupt's entry onto FA", stack * 2 + (unsigned)released);
-        if (released) {
-            release_requests(g.saved);
-        }
-        g.saved[FLAGS] = pushed[0];
-        g.saved[IMR] = 0x81;
-        g.saved[SPL] = (uint8_t)stack;
-        single(NOP, 0xFB); /* P32 falls */
-        check(released ? 20 : SIX, expected.cycles, "granted, or not");
-        if (released) {
-            check(pushed[IRQ - (stack - 3)] & 0x3E, g.saved[IRQ], "the byte pushed onto FA");
-        } else {
-            check_held("no entry before EI");
-        }
-    }
+    begin("an interrupt's entry onto FA", stack);
+    release_requests(g.saved);
+    g.saved[FLAGS] = pushed[0];
+    g.saved[Z8_AT_PC] = pushed[1];
+    g.saved[Z8_AT_PC + 1] = pushed[2];
+    g.saved[IMR] = 0x81;
+    g.saved[SPL] = (uint8_t)stack;
+    g.pins[3] = 0xFB;
+    note(agree(&g, step_of_reference, step_of_library, 0, &expected));
+    take_over();
+    check(ENTRY_COST, expected.cycles, "granted");
+    check(pushed[IRQ - (stack - 3)] & 0x3F & ~1u, g.saved[IRQ], "the byte pushed onto FA");
 }
 
 /* The first of two pushes onto FA before EI, the second after it. */
 static void check_pushes(void)
 {
+    const uint8_t byte = 0xD6;
+
     begin("pushes onto FA", 0);
-    g.saved[0x41] = 0xD6;
+    g.saved[0x41] = byte;
     g.saved[SPL] = IRQ + 1;
     execute(0x70, 0x41, 0, 0xFF); /* PUSH %41 */
     check(IRQ, g.saved[SPL], "SP goes down");
@@ -623,7 +630,7 @@ static void check_pushes(void)
     check(IRQ + 1, g.saved[SPL], "SP goes up");
     single(EI, 0xFF);
     execute(0x70, 0x41, 0, 0xFF);
-    check(0x16, g.saved[IRQ], "after EI it stays, but for bits 6 and 7");
+    check(byte & 0x3F, g.saved[IRQ], "after EI it stays, but for bits 6 and 7");
 }
 
 static void check_every_store(void)
@@ -636,6 +643,7 @@ static void check_every_store(void)
     check_pairs();
     check_pushes();
     for (below = 1; below <= 3; below++) {
+        check_no_entry(IRQ + below);
         check_entry_onto_irq(IRQ + below);
     }
 }
@@ -802,7 +810,7 @@ static void check_makings(void)
     for (k = 0; k < 2; k++) {
         begin("a new machine", types[k]);
         memset(g.saved, 0xFF, Z8_SAVED_LEN);
-        g.amount = types[k] + 1000 * 20;
+        g.amount = types[k] + 1000 * ENTRY_COST;
         note(agree(&g, make_of_reference, make_of_library, 0, &expected));
         take_over();
         check_held("a new machine holds");

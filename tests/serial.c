@@ -244,7 +244,7 @@ static void check_loop(unsigned byte, unsigned p3m)
     check(REQUEST_3 | REQUEST_4, g.saved[IRQ], "both requests");
 }
 
-/* The same before the first EI. C-13: "nothing from the serial port" latches, "the port moves as before". */
+/* The same before the first EI: no request is latched, and the port moves as ever. */
 static void check_loop_before_ei(unsigned byte, unsigned p3m)
 {
     unsigned received = p3m & PARITY ? byte % 128 : byte;

@@ -570,7 +570,7 @@ static void jp_IRR(const struct doing *d)
 
 /* ---- CPU control ---- */
 
-/* DI: "IMR (7) <- 0" (004:1375). C-13: it "holds nothing again". */
+/* DI: "IMR (7) <- 0" (004:1375). Decided for C-13: it holds nothing again. */
 static void di(const struct doing *d)
 {
     d->m->file[IMR] = (uint8_t)(d->m->file[IMR] & ~IMR_MASTER);

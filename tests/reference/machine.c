@@ -86,7 +86,8 @@ static int parity_is_on(const struct ref_machine *m)
    reset". 004, 10.4.3: "IRQ is held in a Reset state until an EI instruction is
    executed", 10.8: "IRQ bits D_0-D_5 are held at 0 until an EI instruction is
    executed." IMR is not asked: 02, "A store that sets bit 7 of IMR isn't an
-   EI"; C-13, "neither is IRET", "DI holds nothing again; only a reset does". */
+   EI". Decided for C-13: neither is IRET, and DI holds nothing again, only a
+   reset does. */
 int ref_irq_is_held(const struct ref_machine *m)
 {
     return !m->ei_executed;
@@ -269,8 +270,8 @@ static void put_timers(struct ref_machine *m, const struct ref_timers *t)
    01: "80 to EF and F0 [...] drop stores (HOUSE)." For the ports see above;
    Port 2 and Port 3 have no dropped bits: "Other port stores go to the latch,
    input bits too (HOUSE)". "IRQ bits 6 and 7 drop stores (HOUSE)", and before
-   the first EI all of IRQ does: 02, C-13, "stores to FA are dropped", "by
-   whatever stores (the stack too)" (C-13). "RP's low nibble always reads 0",
+   the first EI all of IRQ does: 02, C-13, "stores to FA are dropped", decided:
+   by whatever stores, the stack too. "RP's low nibble always reads 0",
    and only zero is legal there. "Writing a load bit copies P and N [...]" is
    ref_write_tmr. "Writing F2 to F5 alone moves no count", so these are plain,
    as are the rest; bit 6 of IMR is held as stored. */
@@ -600,8 +601,8 @@ static void save_serial(const struct ref_serial *s, uint8_t *saved)
    "Legal: divider 0 to 3; prescalers 1 to 64; entry cost 6 to 63; T_OUT 0 or
    1; type 1 or 11; [...] places 80 to EF and F0 (hexadecimal) zero; bits 0 and
    2 of TMR, 6 and 7 of IRQ, and 0 to 3 of RP zero." Of byte 267, which 01 has
-   zero, "the byte's other bits stay zero" (C-13), and "a legal machine that
-   hasn't has IRQ zero" (02), one that has executed no EI. F0's place "stays in
+   zero, all bits but bit 0 stay so, and "a legal machine that hasn't has IRQ
+   zero" (02, C-13), one that has executed no EI. F0's place "stays in
    the legal list" (C-11). The port's bytes are legal by ref_serial_legal, and
    275 is "zero". */
 int ref_check(const uint8_t *saved, size_t length)
@@ -727,8 +728,8 @@ void ref_save(const struct ref_machine *m, uint8_t *saved)
 
 /* One end of T0 while the serial port is on. C-11: "P30's level is that of the
    last pins (in a step or a run the byte given)"; parity of what is received is
-   "as it stands at the transfer". C-13: before the first EI "nothing from the
-   serial port" latches, and "the port moves as before". */
+   "as it stands at the transfer". C-13: before the first EI nothing latches, of
+   the serial port neither, and the port moves as ever. */
 static void serial_end(struct ref_machine *m, struct ref_timers *t)
 {
     int p30 = (m->port3 & PORT3_P30) != 0;

@@ -100,8 +100,8 @@ static uint32_t edge_of_P31(struct ref_machine *m)
    and is 0. Answers T1's ends: 01, "each timer's ends, edge ends too".
 
    Whether a request is latched goes by C-13's rule, and IMR is not asked; the
-   lines are compared and become the last either way. C-13: "In EI's own step
-   the edges are compared before it and latch nothing." 004, 11.5: "Each
+   lines are compared and become the last either way. So in EI's own step the
+   edges, which are compared before it, latch nothing. 004, 11.5: "Each
    High-to-Low transition on T_IN generates interrupt request IRQ_2, regardless
    of the selected T_IN mode or the enabled/disabled state of T_1."
 
@@ -273,8 +273,7 @@ static uint32_t grant(struct ref_machine *m, int request,
    requests as they stand after the edges, an edge's end of T1 with them, and a
    step that grants fetches no opcode. C-11: "Ends within that step's own cycles
    count already", of a start bit, and "A step's store to P3M or F0 acts before
-   its own cycles." C-13, of EI: "ends in its own six cycles come after it and
-   latch".
+   its own cycles." So the ends in EI's own six cycles come after it and latch.
 
    Refusal 5: "opcode undefined [...] step and decode: the same", that is
    "number alone, nothing changed". The edges come before the opcode is met, so
