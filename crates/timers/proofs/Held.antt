@@ -22,7 +22,7 @@ use Rattle.timers.specs.declared.RequestRegister.{RequestRegister}
 use Rattle.timers.specs.declared.Lines.{Lines}
 use Rattle.timers.specs.declared.Moving.{Moving}
 use Rattle.timers.specs.declared.Spanned.{Spanned}
-use Rattle.timers.proofs.Latched.{held-latch}
+use Rattle.timers.proofs.Latched.{latch-keeps-mark, held-latch}
 use Rattle.timers.proofs.BitClock.{moves-no-timer}
 
 -- a is r after some requests were asked for
@@ -38,8 +38,7 @@ holds-on f g =
     record { mark-stays = g .mark-stays ∙ f .mark-stays; held-stays = λ e. g .held-stays (f .mark-stays ∙ e) ∙ f .held-stays e }
 
 latch-holds : (n : ℕ) (r : RequestRegister) → Holds r (latch n r)
-unfolding latch
-latch-holds n r = record { mark-stays = refl; held-stays = held-latch n r }
+latch-holds n r = record { mark-stays = latch-keeps-mark n r; held-stays = held-latch n r }
 
 pub if-holds : (asked : Bool) (n : ℕ) (r : RequestRegister) → Holds r (latchedIf asked n r)
 unfolding latchedIf

@@ -13,6 +13,21 @@ use Rattle.timers.specs.Requests.{latch, latchedIf, requestsFit}
 use Rattle.timers.specs.declared.RequestRegister.{RequestRegister}
 use Rattle.word.proofs.Iterate.{iter-suc, iter-fixed, iter-past}
 
+-- the register with IRQ as given
+abbrev irqAt : RequestRegister → ℕ → RequestRegister
+irqAt r irq = record { irq = irq; released = r .released }
+
+-- a request releases nothing; and held, the register stays as it is
+pub latch-keeps-mark : (n : ℕ) (r : RequestRegister) → latch n r .released ≡ r .released
+unfolding latch
+latch-keeps-mark n r = refl
+
+pub held-latch : (n : ℕ) (r : RequestRegister) → r .released ≡ false → latch n r ≡ r
+unfolding latch
+held-latch n r e =
+    let irq-stays : latch n r .irq ≡ r .irq = rw e in
+    ap (irqAt r) irq-stays
+
 or-assoc : (a b c : ℕ) → bitOr (bitOr a b) c ≡ bitOr a (bitOr b c)
 or-assoc a =
     bin-ind
@@ -41,10 +56,6 @@ bit-swap : (b : Bool) (m n irq : ℕ) → bitIf b m (bitIf b n irq) ≡ bitIf b 
 bit-swap true m n irq = or-assoc irq (2 ^ n) (2 ^ m) ∙ ap (bitOr irq) (or-comm (2 ^ n) (2 ^ m)) ∙ sym (or-assoc irq (2 ^ m) (2 ^ n))
 bit-swap false m n irq = refl
 
--- the register with IRQ as given
-abbrev irqAt : RequestRegister → ℕ → RequestRegister
-irqAt r irq = record { irq = irq; released = r .released }
-
 pub latch-again : (n : ℕ) (r : RequestRegister) → latch n (latch n r) ≡ latch n r
 unfolding latch
 latch-again n r = ap (irqAt r) (bit-again (r .released) n (r .irq))
@@ -59,12 +70,13 @@ latch-often n zero r h = absurd (omega arith)
 latch-often n (suc e) r h =
     iter-suc (latch n) e r ∙ sym (iter-past (latch n) (latch n) (λ (x : RequestRegister). refl) e r) ∙ iter-fixed (latch n) (latch n r) (latch-again n r) e
 
--- held, it stays as it is
-pub held-latch : (n : ℕ) (r : RequestRegister) → r .released ≡ false → latch n r ≡ r
-unfolding latch
-held-latch n r e = ap (λ (b : Bool). irqAt r (bitIf b n (r .irq))) e
+-- what fits is zero where it is held, and below 64; zero fits, as do fewer requests, and as do the same released
+pub fits-zero : (r : RequestRegister) → T (requestsFit r) → r .released ≡ false → r .irq ≡ 0
+unfolding requestsFit
+fits-zero r t e =
+    let none : T (eqb (r .irq) 0) = rw e at t in
+    eqb→eq (r .irq) 0 none
 
--- what fits is below 64, and zero where it is held; zero fits, as do fewer requests, and as do the same released
 pub fits-irq : (r : RequestRegister) → T (requestsFit r) → r .irq < 64
 unfolding requestsFit
 fits-irq r t = go (r .released) t
@@ -72,14 +84,6 @@ fits-irq r t = go (r .released) t
     go : (b : Bool) → T (pick b (ltb (r .irq) 64) (eqb (r .irq) 0)) → r .irq < 64
     go true u = ltb→lt (r .irq) 64 u
     go false u = omega (arith, eqb→eq (r .irq) 0 u)
-
-pub fits-zero : (r : RequestRegister) → T (requestsFit r) → r .released ≡ false → r .irq ≡ 0
-unfolding requestsFit
-fits-zero r t e = go (r .released) e t
-  where
-    go : (b : Bool) → b ≡ false → T (pick b (ltb (r .irq) 64) (eqb (r .irq) 0)) → r .irq ≡ 0
-    go true e u = absurd (subst T e tt)
-    go false e u = eqb→eq (r .irq) 0 u
 
 pub fewer-fit : (r : RequestRegister) (v : ℕ) → T (requestsFit r) → v ≤ r .irq → T (requestsFit (record { irq = v; released = r .released }))
 unfolding requestsFit

@@ -1,7 +1,8 @@
 use borrow.Author.Needs.{needs}
 use Rattle.interrupts.proofs.edges.moved.Statement.{statement}
 use Rattle.interrupts.proofs.edges.moved.Tie as tie
-use Rattle.interrupts.specs.Edges.{movedByEdges}
+use mathlib.Core.Path.{_≡_}
+use Rattle.interrupts.specs.Edges.{latchedBy, movedByEdges}
 use Rattle.interrupts.proofs.Latches.{edges-legal-moving}
 
 last3-requires : tie.Need-last3-requires
@@ -31,7 +32,8 @@ edge-requires c κs =
     let latched : tie.After-latched-by = started .before in
     let now : tie.After-moving-of = latched .before .before .before .before .before in
     let begun : tie.Start = now .before .before .before in
-    rw (started .started-by .ensures, latched .latched-by .ensures, now .moving-of .ensures) (edges-legal-moving _ _ _ (begun .pre .moving))
+    let asked : latched .latched-by .result ≡ latchedBy _ _ _ (now .moving-of .result .lines .requests) = latched .latched-by .ensures in
+    rw (started .started-by .ensures, asked, now .moving-of .ensures) (edges-legal-moving _ _ _ (begun .pre .moving))
 
 returns : tie.Need-returns
 unfolding movedByEdges
