@@ -74,8 +74,8 @@ fn moved(regs: &File, rest: &Rest, given: u8) -> Spanned
     let mode = clock::port_mode(regs, rest);
     let old = m.lines;
     let line = old.port;
-    let asked = old.requests;
-    let requests = latched_by(mode.on, last, given, asked);
+    let register = old.requests;
+    let requests = latched_by(mode.on, last, given, register);
     let port = started_by(mode.on, last, given, line);
     let p31 = fell(1, last, given);
     let lines = Lines {

@@ -68,9 +68,9 @@ fn ended0(m: Mode, s: Setup, l: Lines, e: u32) -> Lines
         return ended(s, l, e);
     }
     let before = l.port;
-    let asked = l.requests;
+    let register = l.requests;
     let x = serial::ends(m, before, e);
-    let sent = crate::requests::latched_if(x.asked4, 4, asked);
+    let sent = crate::requests::latched_if(x.asked4, 4, register);
     let requests = crate::requests::latched_if(x.asked3, 3, sent);
     let tout = level(s.drives, l.tout, e);
     let port = x.port;
