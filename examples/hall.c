@@ -5,7 +5,7 @@
 
    It prints the sheet minute by minute and writes it to FOLDER/recital.csv; FOLDER/readings.csv has the same columns every four
    seconds, for the plot. It exits with 0 where the sheet is accepted, 2 where it isn't, and 1 where there is none, and then one line
-   on stderr says why, and FOLDER is as it was.
+   on stderr says why.
 
    The true time is the crystal's: the cycles spent, at 6,000,000 a second. The image keeps fields and audio blocks, with their
    halves, as counts in registers (below, and examples/recital.lst). Then:
@@ -97,31 +97,11 @@ static void progress_away(void)
         fprintf(stderr, "%78s\r", "");
 }
 
-/* ---- What is written has its name when it is whole, and another until then ---- */
-
-struct table {
-    const char *name;
-    char path[4096], part[4096 + sizeof ".part"];
-    FILE *file;
-};
-
-static struct table sheet = {.name = "recital.csv"}, readings = {.name = "readings.csv"};
-
-static void drop(const struct table *t)
-{
-    if (t->file)
-        fclose(t->file);
-    if (t->part[0] != '\0')
-        remove(t->part);
-}
-
 /* ---- Everything that ends the program early comes here ---- */
 
 static void give_up(const char *who, const char *why)
 {
     progress_away();
-    drop(&sheet);
-    drop(&readings);
     fprintf(stderr, "hall: %s: %s\n", who, why);
     exit(1);
 }
@@ -324,39 +304,31 @@ static void load_image(const char *path)
         give_up(path, z8_answer_text(Z8_REFUSED_IMAGE));
 }
 
-static void begin(struct table *t, const char *folder)
+static FILE *open_csv(const char *folder, const char *name)
 {
-    char part[sizeof t->part];
-    if (snprintf(t->path, sizeof t->path, "%s/%s", folder, t->name) >= (int)sizeof t->path)
-        give_up(t->name, "the folder's name is too long");
-    snprintf(part, sizeof part, "%s.part", t->path);
-    t->file = fopen(part, "w");
-    if (!t->file)
-        give_up(t->path, strerror(errno));
-    strcpy(t->part, part);
-    csv_head(t->file);
+    char path[4096];
+    FILE *csv;
+    if (snprintf(path, sizeof path, "%s/%s", folder, name) >= (int)sizeof path)
+        give_up(name, "the folder's name is too long");
+    csv = fopen(path, "w");
+    if (!csv)
+        give_up(path, strerror(errno));
+    csv_head(csv);
+    return csv;
 }
 
-static void end(struct table *t)
+static void close_csv(const char *name, FILE *csv)
 {
-    int failed = ferror(t->file);
-    failed |= fclose(t->file) != 0;
-    t->file = NULL;
-    if (failed)
-        give_up(t->name, "could not be written whole");
-}
-
-static void give_its_name(struct table *t)
-{
-    if (rename(t->part, t->path) != 0)
-        give_up(t->path, strerror(errno));
-    t->part[0] = '\0';
+    int failed = ferror(csv);
+    if (fclose(csv) != 0 || failed)
+        give_up(name, "could not be written whole");
 }
 
 int main(int argc, char **argv)
 {
     int second, seconds, contrast = CONTRAST_SECONDS, all_within = 1;
     time_t began = time(NULL);
+    FILE *sheet, *readings;
     size_t i;
 
     if (argc != 4 && argc != 5)
@@ -365,24 +337,23 @@ int main(int argc, char **argv)
     seconds = 60 * whole_number("MINUTES", argv[2], 1, MINUTES_MOST);
     if (argc == 5)
         contrast = whole_number("CONTRAST-SECONDS", argv[4], READING_SECONDS, 60 * MINUTES_MOST);
-    begin(&sheet, argv[3]);
-    begin(&readings, argv[3]);
+    sheet = open_csv(argv[3], "recital.csv");
+    readings = open_csv(argv[3], "readings.csv");
     at_terminal = isatty(STDERR_FILENO);
 
     for (i = 0; i < HALLS; i++)
         switch_on(&halls[i]);
+    sheet_head(seconds / 60);
     for (second = 0; second <= seconds; second += READING_SECONDS) {
         for (i = 0; i < HALLS; i++)
             if (!halls[i].slips || second <= contrast)
                 run_to_reading(&halls[i], second);
         progress_away();
-        if (second == 0) /* an image that is refused at once has no sheet, and so no head of one */
-            sheet_head(seconds / 60);
         for (i = 0; i < HALLS; i++) {
             struct reading now = read_off(&halls[i], second);
-            csv_row(readings.file, &halls[i], &now);
+            csv_row(readings, &halls[i], &now);
             if (whole_minute(second)) {
-                csv_row(sheet.file, &halls[i], &now);
+                csv_row(sheet, &halls[i], &now);
                 sheet_row(&halls[i], &now);
             }
             if (!halls[i].slips && !within(&now))
@@ -392,10 +363,8 @@ int main(int argc, char **argv)
         progress(second, seconds, began);
     }
     progress_away();
-    end(&sheet);
-    end(&readings);
-    give_its_name(&sheet);
-    give_its_name(&readings);
     sheet_foot(all_within, seconds);
+    close_csv("recital.csv", sheet);
+    close_csv("readings.csv", readings);
     return all_within ? 0 : 2;
 }

@@ -17,9 +17,8 @@
      - the bytes and numbers lent to one call don't overlap.
 
    What a call answers is Z8_OK, or the number of a refusal; z8_version alone refuses nothing, and answers the version. A refused call has
-   changed no byte and no number that it was lent. The one exception is a run refused with Z8_REFUSED_OPCODE or Z8_REFUSED_PAST_IMAGE: it
-   leaves machine, data memory, cycles and ends as after the whole steps that came before the refused one (and cycles and ends 0 where there
-   was none). */
+   changed no byte and no number that it was lent. The one exception is a run refused with Z8_REFUSED_OPCODE: it leaves machine, data
+   memory, cycles and ends as after the whole steps that came before the undefined opcode (and cycles and ends 0 where there was none). */
 #ifndef Z8_H
 #define Z8_H
 
@@ -30,17 +29,16 @@
 extern "C" {
 #endif
 
-#define Z8_VERSION_MAJOR 4
+#define Z8_VERSION_MAJOR 3
 #define Z8_VERSION_MINOR 0
 #define Z8_VERSION_PATCH 0
-#define Z8_VERSION "4.0.0"
+#define Z8_VERSION "3.0.0"
 #define Z8_VERSION_NUMBER (65536u * Z8_VERSION_MAJOR + 256u * Z8_VERSION_MINOR + Z8_VERSION_PATCH)
 
 /* The library's own version: 65,536 x MAJOR + 256 x MINOR + PATCH. It is Z8_VERSION_NUMBER where library and header belong together. */
 uint32_t z8_version(void);
 
-/* ---- Answers. Where several would apply, the first in the order 7, 6, 1, 2, 3, 4, then 5 or 11, then 8 is given. Of 5 and 11 it is the
-   one that is met first where program bytes are read: see "Program memory" below. ---- */
+/* ---- Answers. Where several would apply, the first in the order 7, 6, 1, 2, 3, 4, 5, 8 is given. ---- */
 
 #define Z8_OK 0u
 #define Z8_REFUSED_IMAGE 1u       /* the program image is over Z8_IMAGE_MOST bytes */
@@ -51,7 +49,6 @@ uint32_t z8_version(void);
 #define Z8_REFUSED_MACHINE 6u     /* the bytes are no legal saved machine */
 #define Z8_REFUSED_LENGTH 7u      /* the saved machine is not Z8_SAVED_LEN bytes long */
 #define Z8_REFUSED_INSTRUCTION 8u /* what is to be encoded is none of the 231 instructions */
-#define Z8_REFUSED_PAST_IMAGE 11u /* a program byte that is to be read is past the image */
 
 /* ---- Limits ---- */
 
@@ -160,23 +157,10 @@ uint32_t z8_check(const uint8_t *saved, size_t saved_len);
    or out; Z8_EI_EXECUTED is clear. R4 to R127, type and entry cost stay. Refuses with 7, 6. */
 uint32_t z8_reset(uint8_t *saved, size_t saved_len);
 
-/* ---- Program memory ----
-
-   The image begins at address 0. At an address of image_len or more, past the image, there is no byte: to read one there is refused with
-   11, Z8_REFUSED_PAST_IMAGE. Bytes are read in this order:
-
-     - where an interrupt is granted, the two bytes of its vector, and no other;
-     - else the opcode, and where it is undefined that is refused with 5 and nothing after it is read; then its operand bytes, as many as it
-       has, at addresses modulo 65,536; then the byte that LDC or LDCI loads.
-
-   Going past the image is no reading: a jump, a call, a return or an interrupt's entry to an address there is done, and what is refused is
-   to fetch from it. Stores of LDC and LDCI are dropped wherever they go. An image of Z8_IMAGE_MOST bytes has no address past it, and
-   operand bytes go round from FFFF to 0000. */
-
 /* ---- Instructions and their bytes ---- */
 
-/* The instruction at an address. Writes the opcode, the two operand bytes (0 where the instruction hasn't them) and the length, 1 to 3.
-   Refuses with 1, then 5 or 11. */
+/* The instruction at an address of the image. Addresses are modulo 65,536, and bytes past the image read FF. Writes the opcode, the two
+   operand bytes (0 where the instruction hasn't them) and the length, 1 to 3. Refuses with 1, 5. */
 uint32_t z8_decode(const uint8_t *image, size_t image_len, uint16_t at,
                    uint8_t *opcode, uint8_t *first, uint8_t *second, uint8_t *length);
 
@@ -189,7 +173,8 @@ uint32_t z8_encode(uint8_t opcode, uint8_t first, uint8_t second,
 
    A cycle is one of the chip's internal clock, half the crystal's frequency: 6,000,000 a second at 12 MHz. The timers tick once in four.
 
-   data, too, begins at address 0. Data addresses under 2,048 (Z8601) or 4,096 (Z8611), or past data_len, read FF and drop stores.
+   image and data both begin at address 0. Program bytes past the image read FF, which is NOP, and stores to program memory are dropped.
+   Data addresses under 2,048 (Z8601) or 4,096 (Z8611), or past data_len, read FF and drop stores.
 
    pins0 to pins3 are the levels at the pins of ports 0 to 3. A program reads them where a port bit is an input; of pins3 the falling edges
    of bits 0 to 3 are interrupt requests too (bit 0's not while the serial port is on), and all eight bits become the last pins
@@ -204,15 +189,15 @@ uint32_t z8_encode(uint8_t opcode, uint8_t first, uint8_t second,
 
 /* One step: the pins are compared with the last ones, an interrupt is granted or else one instruction executed, and the clock goes on by
    what that costs. Writes the machine, what was stored in data memory, the cycles (6 to 63), and how often T0 and T1 ended.
-   Refuses with 7, 6, 1, 2, then 5 or 11. */
+   Refuses with 7, 6, 1, 2, 5. */
 uint32_t z8_step(uint8_t *saved, size_t saved_len, const uint8_t *image, size_t image_len,
                  uint8_t *data, size_t data_len,
                  uint8_t pins0, uint8_t pins1, uint8_t pins2, uint8_t pins3,
                  uint32_t *cycles, uint32_t *ends0, uint32_t *ends1);
 
 /* As many steps, with the pins held, as it takes for their cycles to reach the budget; budget 0 takes none. What it writes is what that
-   many calls of z8_step would have left, with the cycles and the ends summed. Refuses with 7, 6, 1, 2, 4, then 5 or 11; with these two as
-   said at the top of this file. */
+   many calls of z8_step would have left, with the cycles and the ends summed. Refuses with 7, 6, 1, 2, 4, 5; with 5 as said at
+   the top of this file. */
 uint32_t z8_run(uint8_t *saved, size_t saved_len, const uint8_t *image, size_t image_len,
                 uint8_t *data, size_t data_len,
                 uint8_t pins0, uint8_t pins1, uint8_t pins2, uint8_t pins3, uint32_t budget,
@@ -288,8 +273,6 @@ static inline const char *z8_answer_text(uint32_t answer)
         return "the saved machine is not 276 bytes long";
     case Z8_REFUSED_INSTRUCTION:
         return "there is no such instruction";
-    case Z8_REFUSED_PAST_IMAGE:
-        return "a program byte past the image was to be read";
     default:
         return "no answer of this library";
     }

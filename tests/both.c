@@ -5,7 +5,6 @@
 #include <string.h>
 
 #include "reference/bytes.h"
-#include "reference/instructions.h"
 #include "reference/machine.h"
 #include "reference/step.h"
 
@@ -269,15 +268,14 @@ int encodings_agree(uint8_t opcode, uint8_t first, uint8_t second)
 int decodings_agree(const uint8_t *program, size_t length, uint16_t at)
 {
     struct coded e = nothing_coded, f = nothing_coded;
-    uint8_t given[3] = {0, 0, 0};
-    char call[60];
+    uint8_t given[3];
     unsigned k;
 
     for (k = 0; k < 3; k++) {
-        ref_program(program, length, (uint16_t)(at + k), &given[k]); /* 0 where there is none */
+        given[k] = ref_program(program, length, (uint16_t)(at + k));
     }
-    sprintf(call, "z8_decode at %04X of %lu bytes", at, (unsigned long)length);
-    e.answer = (uint32_t)ref_fetch(program, length, at, &e.bytes[0], &e.bytes[1], &e.bytes[2], &e.bytes[3]);
+    e.answer = (uint32_t)ref_decode(given[0], given[1], given[2], &e.bytes[0], &e.bytes[1], &e.bytes[2],
+                                    &e.bytes[3]);
     f.answer = z8_decode(program, length, at, &f.bytes[0], &f.bytes[1], &f.bytes[2], &f.bytes[3]);
-    return codings_agree(call, given, &e, &f);
+    return codings_agree("z8_decode", given, &e, &f);
 }

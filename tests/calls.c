@@ -196,10 +196,10 @@ static const struct call calls[] = {
     {"z8_make_default", call_make_default, MEETS(7)},
     {"z8_check", call_check, MEETS_MACHINE},
     {"z8_reset", call_reset, MEETS_MACHINE},
-    {"z8_decode", call_decode, MEETS(1) | MEETS(5) | MEETS(11)},
+    {"z8_decode", call_decode, MEETS(1) | MEETS(5)},
     {"z8_encode", call_encode, MEETS(8)},
-    {"z8_step", call_step, MEETS_MACHINE | MEETS(1) | MEETS(2) | MEETS(5) | MEETS(11)},
-    {"z8_run", call_run, MEETS_MACHINE | MEETS(1) | MEETS(2) | MEETS(4) | MEETS(5) | MEETS(11)},
+    {"z8_step", call_step, MEETS_MACHINE | MEETS(1) | MEETS(2) | MEETS(5)},
+    {"z8_run", call_run, MEETS_MACHINE | MEETS(1) | MEETS(2) | MEETS(4) | MEETS(5)},
     {"z8_span", call_span, MEETS_MACHINE},
 };
 
@@ -207,17 +207,11 @@ static const struct call calls[] = {
 
 /* ---- Faults ---- */
 
-/* Where in a step a program byte is refused, in the order in which they are read; decode knows no vector and
-   loads nothing. C-17: "Bytes are read in order: the opcode; where it is undefined, 5 and nothing after it is
-   read; its operand bytes, as many as it has; then what it loads." A granted step reads its vector alone. */
-enum reading { READS_NOTHING, READS_VECTOR, READS_OPCODE, READS_UNDEFINED, READS_OPERAND, READS_LOADED };
-
 struct fault {
     uint32_t number; /* the refusal */
     void (*make)(struct arguments *a, uint32_t value);
     uint32_t value;
     const char *what; /* two faults in the same thing can't be made together */
-    enum reading reading;
 };
 
 static void fault_length(struct arguments *a, uint32_t value)
@@ -329,32 +323,6 @@ static void fault_opcode(struct arguments *a, uint32_t value)
     lent.image[GUARD + BASE_PC] = (uint8_t)value;
 }
 
-/* value: the image's length, 0 without one. */
-static void fault_past(struct arguments *a, uint32_t value)
-{
-    a->image_length = value;
-    a->image_is_null = value == 0;
-}
-
-/* value: the image's length, in which the vector of request 5 is cut, which stands and is enabled. */
-static void fault_vector(struct arguments *a, uint32_t value)
-{
-    fault_past(a, value);
-    lent.saved[GUARD + IPR] = 0x08;
-    lent.saved[GUARD + IMR] = 0xA0;
-    lent.saved[GUARD + IRQ] |= 0x20; /* what another fault put there stays */
-}
-
-/* LDC R0,@RR4 or, with the value's bit 16, LDCI @R0,@RR4, of the address in the value, at which the image ends. */
-static void fault_load(struct arguments *a, uint32_t value)
-{
-    fault_past(a, value % 65536);
-    lent.saved[GUARD + 4] = (uint8_t)(value / 256);
-    lent.saved[GUARD + 5] = (uint8_t)value;
-    lent.image[GUARD + BASE_PC] = value / 65536 ? 0xC3 : 0xC2;
-    lent.image[GUARD + BASE_PC + 1] = 0x04;
-}
-
 static void fault_instruction(struct arguments *a, uint32_t value)
 {
     a->opcode = (uint8_t)value;
@@ -389,14 +357,6 @@ static void add_fault(uint32_t number, void (*make)(struct arguments *, uint32_t
     f->make = make;
     f->value = value;
     f->what = what;
-    f->reading = READS_NOTHING;
-}
-
-static void add_read_fault(uint32_t number, void (*make)(struct arguments *, uint32_t), uint32_t value,
-                           const char *what, enum reading reading)
-{
-    add_fault(number, make, value, what);
-    faults[fault_count - 1].reading = reading;
 }
 
 static void add_illegal_byte(unsigned place, unsigned byte, const char *what)
@@ -464,7 +424,7 @@ static void add_opcodes(void)
 
     for (opcode = 0; opcode < 256; opcode++) {
         if (!ref_defined(opcode)) {
-            add_read_fault(5, fault_opcode, (uint32_t)opcode, "opcode in the image", READS_UNDEFINED);
+            add_fault(5, fault_opcode, (uint32_t)opcode, "opcode in the image");
             add_fault(8, fault_instruction, (uint32_t)opcode, "opcode to encode");
         }
     }
@@ -472,25 +432,6 @@ static void add_opcodes(void)
     add_fault(8, fault_first, 255, "unused first operand");
     add_fault(8, fault_second, 1, "unused second operand");
     add_fault(8, fault_second, 255, "unused second operand");
-}
-
-/* What makes an image too short makes it no longer over 65,536 bytes: so they are all of one thing. The image's
-   bytes past what is lent are there all the same, so that one read too many finds an instruction. */
-static void add_images_that_end(void)
-{
-    static const char what[] = "image length";
-
-    add_read_fault(11, fault_past, 0, what, READS_OPCODE);
-    add_read_fault(11, fault_past, 1, what, READS_OPCODE);
-    add_read_fault(11, fault_past, BASE_PC, what, READS_OPCODE);
-    add_read_fault(11, fault_past, BASE_PC + 1, what, READS_OPERAND);
-    add_read_fault(11, fault_vector, 0, what, READS_VECTOR);
-    add_read_fault(11, fault_vector, 10, what, READS_VECTOR);
-    add_read_fault(11, fault_vector, 11, what, READS_VECTOR);
-    add_read_fault(11, fault_load, BASE_PC + 2, what, READS_LOADED);
-    add_read_fault(11, fault_load, 65535, what, READS_LOADED);
-    add_read_fault(11, fault_load, 65536 + BASE_PC + 2, what, READS_LOADED);
-    add_read_fault(11, fault_load, 65536 + 65535, what, READS_LOADED);
 }
 
 static void list_faults(void)
@@ -506,30 +447,25 @@ static void list_faults(void)
     add_makings();
     add_fault(4, fault_budget, 1000001, "budget");
     add_fault(4, fault_budget, 4294967295u, "budget");
-    add_images_that_end();
     add_opcodes();
 }
 
-/* 01: "The first that applies, tested in the order 7, 6, 1, 2, 3, 4, 5, 8"; C-17: "11 stands where 5 stands", and
-   of these two the one whose byte is read first is given. */
-static uint32_t first_refusal(const struct fault *one, const struct fault *other)
+/* 01: "The first that applies, tested in the order 7, 6, 1, 2, 3, 4, 5, 8". */
+static uint32_t first_refusal(uint32_t one, uint32_t other)
 {
-    static const uint32_t order[] = {7, 6, 1, 2, 3, 4, 5, 11, 8};
+    static const uint32_t order[] = {7, 6, 1, 2, 3, 4, 5, 8};
     size_t k;
 
-    if (one->reading != READS_NOTHING && other->reading != READS_NOTHING) {
-        return one->reading < other->reading ? one->number : other->number;
-    }
     for (k = 0; k < sizeof order / sizeof order[0]; k++) {
-        if (order[k] == one->number || order[k] == other->number) {
+        if (order[k] == one || order[k] == other) {
             break;
         }
     }
     return order[k];
 }
 
-/* 01: "number alone, nothing changed"; of a run's 5, and so of its 11: "cycles and ends as after the steps done
-   before", here none. */
+/* 01: "number alone, nothing changed"; of a run's 5: "cycles and ends as after the steps done before", here
+   none. */
 static void check_bytes(const void *before, const void *now, size_t size, const char *which, const char *what)
 {
     if (!check(memcmp(before, now, size) == 0, what) && failed <= FAILURES_TOLD) {
@@ -555,7 +491,7 @@ static void expect_refusal(const struct call *call, const struct arguments *a, u
 {
     memcpy(&lent_before, &lent, sizeof lent);
     check_number(number, call->make(a), what);
-    expect_left_alone(what, call->make == call_run && (number == 5 || number == 11));
+    expect_left_alone(what, call->make == call_run && number == 5);
 }
 
 static void name_faults(char *what, const struct call *call, const struct fault *one,
@@ -579,16 +515,12 @@ static void check_two_faults(const struct call *call, const struct fault *one, c
     one->make(&a, one->value);
     other->make(&a, other->value);
     name_faults(what, call, one, other);
-    expect_refusal(call, &a, first_refusal(one, other), what);
+    expect_refusal(call, &a, first_refusal(one->number, other->number), what);
 }
 
-/* A vector and a load are read by what has a machine. */
 static int meets(const struct call *call, const struct fault *f)
 {
-    int has_machine = (call->meets & MEETS_MACHINE) != 0;
-
-    return (call->meets & MEETS(f->number)) != 0
-           && (has_machine || (f->reading != READS_VECTOR && f->reading != READS_LOADED));
+    return (call->meets & MEETS(f->number)) != 0;
 }
 
 /* Alone (a fault with itself) and every two. */
@@ -946,17 +878,17 @@ static void check_lengths_that_are_fine(void)
     struct arguments a;
 
     base_call(&a);
-    a.image_length = BASE_PC + 1;
-    lent.image[GUARD + BASE_PC] = 0xFF;
-    check_number(0, call_step(&a), "z8_step of the image's last byte: FF is NOP");
+    a.image_length = 0;
+    a.image_is_null = 1;
+    check_number(0, call_step(&a), "z8_step without an image: FF is NOP");
     check_number(6, lent.numbers[1], "NOP's cycles");
     check_number(BASE_PC + 1, lent.saved[GUARD + Z8_AT_PC] * 256ul + lent.saved[GUARD + Z8_AT_PC + 1],
                  "after NOP");
 
     base_call(&a);
-    a.image_length = BASE_PC + 1;
-    lent.image[GUARD + BASE_PC] = 0xFF;
-    check_number(0, call_decode(&a), "z8_decode of the image's last byte: FF is NOP");
+    a.image_length = 0;
+    a.image_is_null = 1;
+    check_number(0, call_decode(&a), "z8_decode without an image: FF is NOP");
     check_number(0xFF, lent.bytes[1], "NOP decoded");
     check_number(1, lent.bytes[7], "NOP's length");
 
@@ -1187,38 +1119,10 @@ static void check_runs_stopped_by_an_opcode(void)
     }
 }
 
-/* The same programs, with the image ending where the undefined opcode was, or one byte before. */
-static void check_runs_stopped_past_the_image(void)
-{
-    static const unsigned counts[] = {0, 1, 2, 3, 4, 10, 100, 1000};
-    static uint8_t image[MEMORY];
-    uint8_t machine[Z8_SAVED_LEN];
-    struct totals stepped;
-    char what[60];
-    size_t i, end;
-
-    base_machine(machine);
-    machine[RP] = 0x10;
-    machine[0x14] = 0x30;
-    machine[Z8_AT_PORT3] = 0xFF;
-    for (i = 0; i < sizeof counts / sizeof counts[0]; i++) {
-        end = write_program_of(image, counts[i]);
-        sprintf(what, "a run stopped by 11 after %u steps", counts[i]);
-        run_and_compare_with_steps(machine, image, end, MEMORY, 1000000, &stepped, what);
-        check_number(counts[i], stepped.steps, what);
-        check_number(11, stepped.answer, what);
-        if (counts[i] > 0) {
-            run_and_compare_with_steps(machine, image, end - 1, MEMORY, 1000000, &stepped, what);
-            check_number(counts[i] - 1, stepped.steps, what);
-            check_number(11, stepped.answer, what);
-        }
-    }
-}
-
 static void check_runs_against_steps(void)
 {
     static const uint32_t budgets[] = {0, 1, 2, 5, 6, 7, 11, 12, 13, 59, 62, 63, 64, 200, 1000, 5000};
-    static uint8_t image[MEMORY]; /* whole, so that a jump finds a program wherever it goes */
+    static uint8_t image[2048];
     unsigned long number, most_over = 0;
 
     for (number = 0; number < 300; number++) {
@@ -1276,13 +1180,6 @@ static void check_budget_0(void)
     memcpy(&lent_before, &lent, sizeof lent);
     check_number(0, call_run(&a), "budget 0");
     expect_left_alone("budget 0", 1);
-
-    base_call(&a);
-    a.budget = 0;
-    fault_past(&a, 0);
-    memcpy(&lent_before, &lent, sizeof lent);
-    check_number(0, call_run(&a), "budget 0 without an image");
-    expect_left_alone("budget 0 without an image", 1);
 }
 
 /* ---- Two machines in turn are two machines alone ---- */
@@ -1324,8 +1221,9 @@ static void run_slice(struct pair_of_runs *p, int which, const uint8_t *image, s
 
 static void check_interleaved(void)
 {
-    static uint8_t data_alone[2][8192], image[MEMORY];
+    static uint8_t data_alone[2][8192];
     struct pair_of_runs alone, in_turn;
+    uint8_t image[2048];
     struct dice d;
     size_t at;
     int slice, which;
@@ -1561,7 +1459,6 @@ static void check_cycles_gone(void)
 static void check_ticks(void)
 {
     static const uint8_t load[3] = {0xE6, 0xF1, 0x03}; /* LD TMR,#%03 */
-    static const uint8_t nops[16] = {[12] = 0xFF, 0xFF, 0xFF, 0xFF};
     uint8_t m[Z8_SAVED_LEN];
     uint32_t cycles, ends0, ends1;
     int k;
@@ -1569,7 +1466,7 @@ static void check_ticks(void)
     z8_make_default(m, Z8_SAVED_LEN);
     fresh_timer(m, TIMER_0, 64, 256);
     for (k = 0; k < 4; k++) {
-        z8_step(m, Z8_SAVED_LEN, nops, sizeof nops, NULL, 0, 255, 255, 255, 255, &cycles, &ends0, &ends1);
+        z8_step(m, Z8_SAVED_LEN, NULL, 0, NULL, 0, 255, 255, 255, 255, &cycles, &ends0, &ends1);
         check_number(6, cycles, "NOP's cycles");
     }
     check_number(64 - 6, m[Z8_AT_T0_PRESCALER], "four 6-cycle instructions are six ticks");
@@ -1850,7 +1747,6 @@ static void check_refusal_names(void)
         {Z8_REFUSED_MAKING, 3, "Z8_REFUSED_MAKING"},   {Z8_REFUSED_BUDGET, 4, "Z8_REFUSED_BUDGET"},
         {Z8_REFUSED_OPCODE, 5, "Z8_REFUSED_OPCODE"},   {Z8_REFUSED_MACHINE, 6, "Z8_REFUSED_MACHINE"},
         {Z8_REFUSED_LENGTH, 7, "Z8_REFUSED_LENGTH"},   {Z8_REFUSED_INSTRUCTION, 8, "Z8_REFUSED_INSTRUCTION"},
-        {Z8_REFUSED_PAST_IMAGE, 11, "Z8_REFUSED_PAST_IMAGE"},
     };
     struct arguments a;
     size_t r, c, f;
@@ -1978,19 +1874,16 @@ static void check_flag_names(void)
 
 static void check_answer_texts(void)
 {
-    static const uint32_t answers[] = {0, 1, 2, 3, 4, 5, 6, 7, 8, 11};
-    static const uint32_t others[] = {9, 10, 12, 256, 0x80000000u, 4294967295u};
+    static const uint32_t others[] = {9, 10, 256, 0x80000000u, 4294967295u};
     const char *other = z8_answer_text(others[0]);
     char length[20];
-    size_t i, j;
+    uint32_t i, j;
 
-    for (i = 0; i < sizeof answers / sizeof answers[0]; i++) {
-        const char *words = z8_answer_text(answers[i]);
-
-        check(strlen(words) > 0, "an answer in words");
-        check(strcmp(words, other) != 0, "an answer's words differ from those of no answer");
+    for (i = 0; i <= 8; i++) {
+        check(strlen(z8_answer_text(i)) > 0, "an answer in words");
+        check(strcmp(z8_answer_text(i), other) != 0, "an answer's words differ from those of no answer");
         for (j = 0; j < i; j++) {
-            check(strcmp(words, z8_answer_text(answers[j])) != 0, "two answers have different words");
+            check(strcmp(z8_answer_text(i), z8_answer_text(j)) != 0, "two answers have different words");
         }
     }
     for (i = 0; i < sizeof others / sizeof others[0]; i++) {
@@ -2015,7 +1908,6 @@ int main(void)
     check_resets();
     check_lengths_past_32_bits();
     check_runs_stopped_by_an_opcode();
-    check_runs_stopped_past_the_image();
     check_runs_against_steps();
     check_longest_overrun();
     check_budget_0();

@@ -146,8 +146,8 @@ static void set_pc(struct given *g, unsigned pc)
 
 /* Opcodes that meet more than one rule of 01 at once, and so are drawn more often. */
 static const uint32_t weighty[] = {0x50, 0x51, 0x70, 0x71, 0xAF, 0xBF, 0xD4, 0xD6, 0x82, 0x83,
-                                   0x92, 0x93, 0xC2, 0xC3, 0xD2, 0xD3, 0x40, 0x41, 0x80, 0x81,
-                                   0xA0, 0xA1, 0xC7, 0xD7, 0xE6, 0xE7, 0x46, 0x56, 0x31, 0x30};
+                                   0x92, 0x93, 0xC2, 0xC3, 0xD3, 0x40, 0x41, 0x80, 0x81, 0xA0,
+                                   0xA1, 0xC7, 0xD7, 0xE6, 0xE7, 0x46, 0x56, 0x31, 0x30};
 
 static void draw_instruction(struct dice *d, unsigned long number, uint8_t bytes[3])
 {
@@ -198,17 +198,6 @@ static void draw_pins(struct dice *d, struct given *g)
     }
 }
 
-/* Where the image isn't whole, mostly at an instruction that is in it whole; now and then at its end, or past it. */
-static void draw_pc(struct dice *d, struct given *g, uint32_t image_length)
-{
-    if (image_length < MEMORY && !one_in(d, 16)) {
-        set_pc(g, image_length < 3 ? 0 : below(d, image_length - 2));
-    }
-    if (one_in(d, 8)) {
-        set_pc(g, image_length - 1 - below(d, 3)); /* the image ends with the instruction, or within it */
-    }
-}
-
 static void draw_surroundings(struct dice *d, struct given *g)
 {
     struct lean lean;
@@ -218,7 +207,9 @@ static void draw_surroundings(struct dice *d, struct given *g)
     lean.data_length = draw_data_length(d);
     lean.image_length = draw_image_length(d);
     draw_machine(d, &lean, g->saved);
-    draw_pc(d, g, lean.image_length);
+    if (one_in(d, 8)) {
+        set_pc(g, lean.image_length - below(d, 4)); /* the image ends at or within the instruction */
+    }
     g->seed = seed;
     g->data_length = lean.data_length;
     g->data = lean.data_length == 0 && one_in(d, 2) ? NULL : first_memory.bytes;
@@ -269,104 +260,6 @@ static void compare_drawn_steps(unsigned long count)
         g.call = "z8_step, a drawn step";
         g.number = number;
         draw_instruction(&d, number, bytes);
-        compare_instruction(&g, bytes);
-    }
-    compare_whole_memories();
-}
-
-/* ---- Images that end about what a step reads ---- */
-
-/* Some two bytes before that address to three after it. */
-static void end_image_about(struct dice *d, struct given *g, unsigned address)
-{
-    uint32_t length = address + below(d, 6);
-
-    g->image = image;
-    g->image_length = length < 2 ? 0 : length - 2 > MEMORY ? MEMORY : length - 2;
-}
-
-/* The program counter where the instruction is in the image whole, if it is long enough. */
-static void set_pc_inside(struct dice *d, struct given *g)
-{
-    set_pc(g, g->image_length < 3 ? 0 : below(d, (uint32_t)g->image_length - 2));
-}
-
-/* A request that is granted, or nearly always: its vector is about the image's end. */
-static void end_at_a_vector(struct dice *d, struct given *g)
-{
-    unsigned request = below(d, 6);
-
-    release_requests(g->saved);
-    g->saved[IRQ] |= (uint8_t)(1u << request);
-    g->saved[IMR] = (uint8_t)(0x80 | 1u << request);
-    g->saved[IPR] = (uint8_t)(g->saved[IPR] | 0x08);
-    end_image_about(d, g, 2 * request);
-    if (one_in(d, 2)) {
-        set_pc_inside(d, g);
-    }
-}
-
-static const uint32_t program_loads[] = {0xC2, 0xC3, 0xC2, 0xC3, 0xC2, 0xC3, 0xD2, 0xD3};
-
-/* LDC or LDCI by a pair of plain registers. */
-static void end_at_a_load(struct dice *d, struct given *g, uint8_t bytes[3])
-{
-    unsigned group = 0x10 * (1 + below(d, 7)), pair = 2 * below(d, 8);
-
-    bytes[0] = (uint8_t)one_of(d, program_loads, sizeof program_loads / sizeof program_loads[0]);
-    bytes[1] = (uint8_t)(16 * below(d, 16) + pair + below(d, 2));
-    g->saved[IMR] &= 0x7F;
-    g->saved[RP] = (uint8_t)group;
-    end_image_about(d, g, g->saved[group + pair] * 256u + g->saved[group + pair + 1]);
-    set_pc_inside(d, g);
-}
-
-/* LDC or LDCI by the pair FA, where an edge is a request more, or F2, where it moves T1's count. */
-static void end_at_a_load_that_edges_move(struct dice *d, struct given *g, uint8_t bytes[3])
-{
-    unsigned low = one_in(d, 2) ? 0x0A : 0x02;
-
-    bytes[0] = one_in(d, 2) ? 0xC2 : 0xC3;
-    bytes[1] = (uint8_t)(16 * below(d, 16) + low + below(d, 2));
-    release_requests(g->saved);
-    g->saved[IMR] &= 0x7F;
-    g->saved[RP] = 0xF0;
-    g->saved[PRE1] &= 0xFD; /* T1 counts the edges of P31 */
-    g->saved[TMR] = (uint8_t)((g->saved[TMR] & 0xC2) | 0x08);
-    g->saved[Z8_AT_PORT3] |= 0x0E;
-    g->pins[3] &= (uint8_t)(0xFF & ~(2u << below(d, 3)));
-    end_image_about(d, g, (low == 2 ? g->saved[Z8_AT_T1_COUNTER] : g->saved[IRQ]) * 256u + below(d, 512));
-    set_pc_inside(d, g);
-}
-
-static void compare_images_that_end(unsigned long count)
-{
-    unsigned long number;
-
-    for (number = 0; number < count; number++) {
-        struct given g;
-        struct dice d;
-        uint8_t bytes[3];
-
-        dice_for_case(&d, seed + 14, number);
-        draw_surroundings(&d, &g);
-        g.call = "z8_step, at the image's end";
-        g.number = number;
-        draw_instruction(&d, number, bytes);
-        switch (number % 4) {
-        case 0:
-            end_at_a_vector(&d, &g);
-            break;
-        case 1:
-            end_at_a_load(&d, &g, bytes);
-            break;
-        case 2:
-            end_at_a_load_that_edges_move(&d, &g, bytes);
-            break;
-        default:
-            end_image_about(&d, &g, pc_of(&g) + 1);
-            break;
-        }
         compare_instruction(&g, bytes);
     }
     compare_whole_memories();
@@ -739,20 +632,9 @@ static void draw_program(struct dice *d, uint8_t *program, size_t length)
     }
 }
 
-/* The program again and again, all over program memory, so that a jump finds a program wherever it goes. */
-static void repeat_program(uint8_t program[MEMORY], size_t length)
-{
-    size_t at;
-
-    for (at = length; at < MEMORY; at++) {
-        program[at] = program[at - length];
-    }
-}
-
-/* Of the images a quarter ends with the program, so that a run soon leaves it; the others are whole. */
 static void compare_drawn_runs(unsigned long count)
 {
-    static uint8_t program[MEMORY];
+    static uint8_t program[1024];
     unsigned long number, slice;
 
     for (number = 0; number < count; number++) {
@@ -767,12 +649,8 @@ static void compare_drawn_runs(unsigned long count)
         g.image = program;
         g.image_length = 16 + below(&d, 1000);
         draw_program(&d, program, g.image_length);
-        repeat_program(program, g.image_length);
         if (!one_in(&d, 8)) {
             set_pc(&g, below(&d, (uint32_t)g.image_length));
-        }
-        if (!one_in(&d, 4)) {
-            g.image_length = MEMORY;
         }
         for (slice = 0; slice < 4; slice++) {
             g.amount = draw_budget(&d);
@@ -790,14 +668,12 @@ static void compare_drawn_runs(unsigned long count)
 static void compare_budgets_at_the_limit(void)
 {
     static const uint8_t program[14] = {[12] = 0x8B, 0xFE}; /* JR to itself */
-    static uint8_t nops[MEMORY];
     static const uint32_t budgets[] = {999998, 999999, 1000000, 1000001, 1000002, 1000003, 4294967295u};
     struct outcome expected;
     struct given g;
     struct dice d;
     size_t k;
 
-    memset(nops, 0xFF, sizeof nops);
     for (k = 0; k < sizeof budgets / sizeof budgets[0]; k++) {
         plain_machine(&g, "z8_run, a budget at the limit");
         g.number = k;
@@ -810,8 +686,8 @@ static void compare_budgets_at_the_limit(void)
         draw_surroundings(&d, &g);
         g.call = "z8_run, a budget at the limit, of a drawn machine";
         g.number = k;
-        g.image = nops;
-        g.image_length = sizeof nops;
+        g.image = NULL;
+        g.image_length = 0;
         g.amount = budgets[k];
         note(agree(&g, run_of_reference, run_of_library, 1, &expected));
         restore_memories();
@@ -1030,12 +906,7 @@ static void compare_codes(void)
         }
     }
     for (operand = 0; operand < 65536; operand++) {
-        unsigned there; /* of the three bytes from there on, which in a whole image go round */
-
         note(decodings_agree(image, MEMORY, (uint16_t)operand));
-        for (there = 0; there < 3 && operand + there <= MEMORY; there++) {
-            note(decodings_agree(image, operand + there, (uint16_t)operand));
-        }
     }
     note(decodings_agree(NULL, 0, 0));
     note(decodings_agree(NULL, 0, 0xFFFF));
@@ -1055,7 +926,6 @@ int main(int argc, char **argv)
     fill_memories();
 
     compare_drawn_steps(count);
-    compare_images_that_end(1 + count / 4);
     compare_operand_bytes();
     compare_registers();
     compare_port_modes();

@@ -123,22 +123,6 @@ static void put_program_counter_into_image(struct given *g, uint8_t where)
     }
 }
 
-/* The input's program again and again, all over program memory, so that a jump finds a program wherever it goes. */
-static void repeat_program(struct given *g)
-{
-    static uint8_t whole[MEMORY];
-    size_t at;
-
-    if (g->image_length > 0) {
-        memcpy(whole, g->image, g->image_length);
-        for (at = g->image_length; at < MEMORY; at++) {
-            whole[at] = whole[at - g->image_length];
-        }
-        g->image = whole;
-        g->image_length = MEMORY;
-    }
-}
-
 static void must(int passed)
 {
     if (!passed) {
@@ -218,9 +202,6 @@ int LLVMFuzzerTestOneInput(const uint8_t *bytes, size_t length)
     g.image_length = in.length > MEMORY ? MEMORY : in.length;
     if (legal > 1) {
         put_program_counter_into_image(&g, where);
-    }
-    if (choice >= 128) {
-        repeat_program(&g);
     }
 
     if (choice % 16 == 15) {

@@ -41,14 +41,10 @@ const char *name_of_saved_byte(size_t at)
     return name;
 }
 
-static void print_program_byte(const struct given *g, unsigned long address)
+static unsigned program_byte(const struct given *g, unsigned long address)
 {
     address %= 65536;
-    if (address < g->image_length) {
-        printf(" %02X", g->image[address]);
-    } else {
-        printf(" none");
-    }
+    return address < g->image_length ? g->image[address] : 0xFF;
 }
 
 static void print_row(const struct given *g, size_t from, size_t to)
@@ -66,12 +62,9 @@ static void print_given(const struct given *g)
     unsigned long pc = g->saved[Z8_AT_PC] * 256ul + g->saved[Z8_AT_PC + 1];
 
     printf("  given: seed %lu, case %lu, %s\n", g->seed, g->number, g->call);
-    printf("  PC %04lX, program bytes there", pc);
-    print_program_byte(g, pc);
-    print_program_byte(g, pc + 1);
-    print_program_byte(g, pc + 2);
-    printf(", image length %lu, data length %lu, amount %lu\n", (unsigned long)g->image_length,
-           (unsigned long)g->data_length, (unsigned long)g->amount);
+    printf("  PC %04lX, program bytes there %02X %02X %02X, image length %lu, data length %lu, amount %lu\n",
+           pc, program_byte(g, pc), program_byte(g, pc + 1), program_byte(g, pc + 2),
+           (unsigned long)g->image_length, (unsigned long)g->data_length, (unsigned long)g->amount);
     printf("  pins of ports 0 to 3: %02X %02X %02X %02X\n", g->pins[0], g->pins[1], g->pins[2], g->pins[3]);
     printf("  F0 to FF:");
     print_row(g, 0xF0, 0x100);

@@ -8,8 +8,6 @@
 #include "reference/bytes.h"
 #include "reference/machine.h"
 
-#define NO_REQUEST (-1)
-
 /* Register places, by 002. */
 enum { SIO = 0xF0, TMR = 0xF1, PRE1 = 0xF3, PRE0 = 0xF5, P3M = 0xF7, P01M = 0xF8, IPR = 0xF9 };
 enum { IRQ = 0xFA, IMR = 0xFB, FLAGS = 0xFC, RP = 0xFD, SPH = 0xFE, SPL = 0xFF };
@@ -41,7 +39,8 @@ static const char *const kind_names[KINDS] = {
     "data loads",
     "data loads outside",
     "program loads",
-    "program loads of the image's last byte",
+    "program loads at the image's end",
+    "fetches past image",
     "PC wraps",
     "Ex operands",
     "special operands",
@@ -52,28 +51,6 @@ static const char *const kind_names[KINDS] = {
     "RP stored",
     "no image",
     "no data",
-    "refusals 11 at the opcode",
-    "refusals 11 at the first operand byte",
-    "refusals 11 at the second operand byte",
-    "refusals 11 at FFFF of an instruction before it",
-    "refusals 11 at a vector's high byte",
-    "refusals 11 at a vector's low byte",
-    "refusals 11 at LDC's load",
-    "refusals 11 at LDCI's load",
-    "refusals 11 of a load that an edge moved past the image",
-    "refusals 11 with edges",
-    "refusals 11 with an edge end",
-    "refusals 11 with a start bit",
-    "refusals 5 at the image's last byte",
-    "one-byte instructions at the image's end",
-    "two-byte instructions at the image's end",
-    "three-byte instructions at the image's end",
-    "operand bytes that go round",
-    "loads that an edge moved into the image",
-    "stores of LDC and LDCI past the image",
-    "jumps past the image",
-    "grants to past the image",
-    "grants from past the image",
     "start bits found",
     "edges of P30 in a character",
     "edges of P30 with the port off",
@@ -121,11 +98,7 @@ static const char *const kind_names[KINDS] = {
     "runs with ends",
     "runs over their budget",
     "runs stopped by 5",
-    "runs stopped by 5 at once",
-    "runs stopped by 11",
-    "runs stopped by 11 after ends",
-    "runs stopped by 11 at once",
-    "runs stopped by 11 at once, with edges",
+    "runs stopped at once",
     "runs to a byte received",
     "runs to a byte sent",
     "runs before EI with ends",
@@ -182,22 +155,9 @@ unsigned pc_of(const struct given *g)
     return word_at(g->saved + Z8_AT_PC);
 }
 
-#define MEMORY 65536u
-
-/* What is read past the image, and equal to no byte. */
-#define NO_BYTE 0x100u
-
-/* The program byte so far after the program counter, modulo 65,536. */
-static unsigned program_byte(const struct given *g, unsigned after)
-{
-    uint8_t byte;
-
-    return ref_program(g->image, g->image_length, (uint16_t)(pc_of(g) + after), &byte) == 0 ? byte : NO_BYTE;
-}
-
 static unsigned opcode_of(const struct given *g)
 {
-    return program_byte(g, 0);
+    return ref_program(g->image, g->image_length, (uint16_t)pc_of(g));
 }
 
 /* 02, C-11: "active when P3M bit 6 is set". */
@@ -236,32 +196,10 @@ static int order_is_reserved(const struct given *g)
     return order == 0 || order == 0x19;
 }
 
-static int is_granted(const struct given *g)
+static void see_interrupts(const struct given *g)
 {
-    return asks_for_grant(g) && !order_is_reserved(g);
-}
-
-/* The request that asks alone; NO_REQUEST where there are several. */
-static int only_request(const struct given *g)
-{
-    unsigned asking = requests_standing(g) & g->saved[IMR] & 0x3F;
-    int request = 0;
-
-    if (asking == 0 || (asking & (asking - 1)) != 0) {
-        return NO_REQUEST;
-    }
-    while (asking >> request != 1) {
-        request++;
-    }
-    return request;
-}
-
-static void see_interrupts(const struct given *g, const struct outcome *after)
-{
-    saw(GRANTS, is_granted(g));
+    saw(GRANTS, asks_for_grant(g) && !order_is_reserved(g));
     saw(RESERVED_ORDERS, asks_for_grant(g) && order_is_reserved(g));
-    saw(GRANTS_TO_PAST, is_granted(g) && word_at(after->saved + Z8_AT_PC) >= g->image_length);
-    saw(GRANTS_FROM_PAST, is_granted(g) && pc_of(g) >= g->image_length);
 }
 
 static unsigned lines_that_fell(const struct given *g)
@@ -311,7 +249,7 @@ static int is_stack_instruction(unsigned opcode)
 
 static int uses_stack(const struct given *g)
 {
-    return is_stack_instruction(opcode_of(g)) || is_granted(g);
+    return is_stack_instruction(opcode_of(g)) || (asks_for_grant(g) && !order_is_reserved(g));
 }
 
 static int stack_is_internal(const struct given *g)
@@ -367,17 +305,11 @@ int can_store_data(const struct given *g)
            || (!stack_is_internal(g) && (is_stack_instruction(opcode_of(g)) || (g->saved[IMR] & 0x80)));
 }
 
-/* LDC, LDCI */
-static int loads_program(unsigned opcode)
-{
-    return opcode == 0xC2 || opcode == 0xC3;
-}
-
-/* LDC, LDCI, LDE, LDEI: the address in a pair of plain registers. */
+/* LDC, LDCI, LDE, LDEI from a memory: the address in a pair of plain registers. */
 static void see_loads(const struct given *g)
 {
     unsigned opcode = opcode_of(g);
-    unsigned operand = program_byte(g, 1);
+    unsigned operand = ref_program(g->image, g->image_length, (uint16_t)(pc_of(g) + 1));
     unsigned pair = (g->saved[RP] & 0xF0u) + (operand & 0x0E), address;
 
     if (asks_for_grant(g) || pair < 4 || pair >= 0x80) {
@@ -390,9 +322,10 @@ static void see_loads(const struct given *g)
         saw(DATA_LOADS, lent);
         saw(DATA_LOADS_OUTSIDE, !lent);
     }
-    saw(PROGRAM_LOADS, loads_program(opcode));
-    saw(PROGRAM_LOADS_AT_END, loads_program(opcode) && address + 1 == g->image_length);
-    saw(PROGRAM_STORES_PAST, (opcode == 0xD2 || opcode == 0xD3) && address >= g->image_length);
+    if (opcode == 0xC2 || opcode == 0xC3) {
+        saw(PROGRAM_LOADS, address < g->image_length);
+        saw(PROGRAM_LOADS_AT_END, address == g->image_length || address + 1 == g->image_length);
+    }
 }
 
 static void see_data(const struct given *g, const struct outcome *after)
@@ -401,98 +334,32 @@ static void see_data(const struct given *g, const struct outcome *after)
 
     saw(DATA_STORES, stored);
     saw(DATA_DROPS, writes_data_by_instruction(opcode_of(g)) && !asks_for_grant(g) && !stored);
+    saw(NO_IMAGE, g->image == NULL);
     saw(NO_DATA, g->data_length == 0);
 }
 
 static void see_instruction(const struct given *g, const struct outcome *after)
 {
     unsigned pc = pc_of(g), opcode = opcode_of(g);
-    unsigned length = (unsigned)ref_length((int)opcode), next = word_at(after->saved + Z8_AT_PC);
-    unsigned operand = program_byte(g, 1);
+    unsigned length = (unsigned)ref_length((int)opcode);
+    unsigned operand = ref_program(g->image, g->image_length, (uint16_t)(pc + 1));
 
-    if (asks_for_grant(g) || opcode == NO_BYTE) { /* the latter where an edge's end is granted */
+    if (asks_for_grant(g)) {
         return;
     }
+    saw(REFUSALS_5, after->answer == 5);
+    saw(PAST_IMAGE, pc + length > g->image_length);
     saw(PC_WRAPS, pc + length > 0xFFFF);
-    saw(OPERANDS_GO_ROUND, pc + length > MEMORY);
-    saw(ONE_BYTE_AT_END, length == 1 && pc + length == g->image_length);
-    saw(TWO_BYTES_AT_END, length == 2 && pc + length == g->image_length);
-    saw(THREE_BYTES_AT_END, length == 3 && pc + length == g->image_length);
     saw(EX_OPERANDS, length > 1 && operand / 16 == 0xE);
     saw(SPECIAL_OPERANDS, length > 1 && (operand < 4 || operand > 0xF0));
     saw(HOLES, length > 1 && operand >= 0x80 && operand <= 0xF0 && operand / 16 != 0xE);
     saw(DA_IN_NO_ROW, opcode == 0x40 && operand > 3 && operand < 0x80
                           && g->saved[operand] == after->saved[operand] && g->saved[operand] % 16 > 9);
-    saw(LOADS, opcode == 0xE6 && operand == TMR && (program_byte(g, 2) & 5));
-    saw(JUMPS, next != (pc + length) % MEMORY);
-    saw(JUMPS_PAST, next != (pc + length) % MEMORY && next >= g->image_length);
+    saw(LOADS,
+        opcode == 0xE6 && operand == TMR && (ref_program(g->image, g->image_length, (uint16_t)(pc + 2)) & 5));
+    saw(JUMPS, after->answer == 0 && word_at(after->saved + Z8_AT_PC) != (pc + length) % 65536);
     saw(FLAGS_STORED, opcode != 0xBF && (g->saved[FLAGS] & 3) != (after->saved[FLAGS] & 3));
     saw(RP_STORED, g->saved[RP] != after->saved[RP]);
-}
-
-/* ---- Past the image ---- */
-
-/* The address in the pair of LDC or LDCI, had no edge come before it. */
-static unsigned address_without_edges(const struct given *g)
-{
-    struct ref_machine m;
-    struct ref_pins pins;
-
-    memcpy(pins.port, g->pins, 4);
-    ref_load(&m, g->saved);
-    return ref_pair(&m, &pins, ref_working(&m, (uint8_t)program_byte(g, 1)));
-}
-
-static void see_vector_past(const struct given *g)
-{
-    int request = only_request(g);
-
-    saw(PAST_AT_VECTOR_HIGH, request != NO_REQUEST && g->image_length <= 2u * (unsigned)request);
-    saw(PAST_AT_VECTOR_LOW, request != NO_REQUEST && g->image_length == 2u * (unsigned)request + 1);
-}
-
-/* 02, C-17: the first byte that is missing, in the order in which they are read. */
-static void see_instruction_past(const struct given *g)
-{
-    unsigned opcode = opcode_of(g), pc = pc_of(g);
-    unsigned length = opcode == NO_BYTE ? 1 : (unsigned)ref_length((int)opcode), there = 0;
-
-    while (there < length && program_byte(g, there) != NO_BYTE) {
-        there++;
-    }
-    saw(PAST_AT_OPCODE, there == 0);
-    saw(PAST_AT_FIRST_OPERAND, there == 1 && there < length);
-    saw(PAST_AT_SECOND_OPERAND, there == 2 && there < length);
-    saw(PAST_AT_FFFF, there > 0 && there < length && pc + there == 0xFFFF);
-    saw(PAST_AT_LDC, there == length && opcode == 0xC2);
-    saw(PAST_AT_LDCI, there == length && opcode == 0xC3);
-    saw(PAST_BY_AN_EDGE, there == length && address_without_edges(g) < g->image_length);
-}
-
-static void see_refused(const struct given *g, const struct outcome *after)
-{
-    int fell = (g->saved[Z8_AT_PORT3] & ~g->pins[3] & 1) != 0;
-
-    saw(REFUSALS_5, after->answer == 5);
-    saw(UNDEFINED_AT_END, after->answer == 5 && pc_of(g) + 1 == g->image_length);
-    if (after->answer != 11) {
-        return;
-    }
-    saw(PAST_WITH_EDGES, lines_that_fell(g));
-    saw(PAST_WITH_EDGE_ENDS, t1_ends_by_an_edge(g));
-    saw(PAST_WITH_START_EDGES, fell && port_is_on(g->saved) && g->saved[Z8_AT_RECEIVER_AWAITS] == 0);
-    if (is_granted(g)) {
-        see_vector_past(g);
-    } else if (!t1_ends_by_an_edge(g)) { /* whose request may be the one granted */
-        see_instruction_past(g);
-    }
-}
-
-static void see_moved_loads(const struct given *g)
-{
-    saw(PROGRAM_LOADS_BY_AN_EDGE, !asks_for_grant(g) && loads_program(opcode_of(g))
-                                      && !t1_ends_by_an_edge(g)
-                                      && address_without_edges(g) >= g->image_length);
 }
 
 /* ---- The serial port ---- */
@@ -541,9 +408,10 @@ static void see_receiver(const struct given *g, const struct outcome *after)
 /* Nothing but a store brings the start bit onto P37. */
 static void see_sender(const struct given *g, const struct outcome *after)
 {
-    unsigned before = g->saved[Z8_AT_SENDER_PLACE], now = after->saved[Z8_AT_SENDER_PLACE];
-    int stores = !asks_for_grant(g) && opcode_of(g) == 0xE6 && program_byte(g, 1) == SIO;
-    unsigned byte = program_byte(g, 2);
+    unsigned before = g->saved[Z8_AT_SENDER_PLACE], now = after->saved[Z8_AT_SENDER_PLACE], pc = pc_of(g);
+    int stores = !asks_for_grant(g) && opcode_of(g) == 0xE6
+                 && ref_program(g->image, g->image_length, (uint16_t)(pc + 1)) == SIO;
+    unsigned byte = ref_program(g->image, g->image_length, (uint16_t)(pc + 2));
 
     saw(SENDS_BEGUN, before == 0 && now == 1);
     saw(SENDS_OVERWRITTEN, before > 1 && now == 1);
@@ -576,9 +444,11 @@ static void see_port(const struct given *g, const struct outcome *after)
 /* LD IRQ,#.. or OR IRQ,#.. of a request. */
 static int stores_a_request(const struct given *g)
 {
-    unsigned opcode = opcode_of(g);
+    unsigned pc = pc_of(g), opcode = opcode_of(g);
 
-    return (opcode == 0xE6 || opcode == 0x46) && program_byte(g, 1) == IRQ && (program_byte(g, 2) & 0x3F);
+    return (opcode == 0xE6 || opcode == 0x46)
+           && ref_program(g->image, g->image_length, (uint16_t)(pc + 1)) == IRQ
+           && (ref_program(g->image, g->image_length, (uint16_t)(pc + 2)) & 0x3F);
 }
 
 /* PUSH and CALL with the internal stack: whether a byte comes to lie on IRQ. */
@@ -616,6 +486,9 @@ static void see_held(const struct given *g, const struct outcome *after)
 
 static void see_requests(const struct given *g, const struct outcome *after)
 {
+    if (after->answer != 0) {
+        return;
+    }
     if (!requests_are_held(g->saved)) {
         saw(IRQ_STORES, !asks_for_grant(g) && stores_a_request(g));
         saw(RELEASED_DIS, !asks_for_grant(g) && opcode_of(g) == 0x8F && after->saved[IRQ]);
@@ -630,18 +503,12 @@ static void see_requests(const struct given *g, const struct outcome *after)
 
 void see_step(const struct given *g, const struct outcome *after)
 {
-    saw(NO_IMAGE, g->image == NULL);
-    if (after->answer != 0) {
-        see_refused(g, after);
-        return;
-    }
     see_requests(g, after);
-    see_interrupts(g, after);
+    see_interrupts(g);
     see_timers(g, after);
     see_stack(g, after);
     see_data(g, after);
     see_loads(g);
-    see_moved_loads(g);
     see_instruction(g, after);
     see_port(g, after);
 }
@@ -656,10 +523,6 @@ void see_run(const struct given *g, const struct outcome *after)
     saw(RUNS_OVER, after->answer == 0 && after->cycles > g->amount);
     saw(RUNS_STOPPED, after->answer == 5 && after->cycles > 0);
     saw(RUNS_STOPPED_AT_ONCE, after->answer == 5 && after->cycles == 0);
-    saw(RUNS_PAST, after->answer == 11 && after->cycles > 0);
-    saw(RUNS_PAST_WITH_ENDS, after->answer == 11 && after->ends0 > 0 && after->ends1 > 0);
-    saw(RUNS_PAST_AT_ONCE, after->answer == 11 && after->cycles == 0);
-    saw(RUNS_PAST_AT_ONCE_WITH_EDGES, after->answer == 11 && after->cycles == 0 && lines_that_fell(g));
     saw(RUN_RECEPTIONS, byte_received(g->saved, after->saved));
     saw(RUN_SENDS, byte_sent(g->saved, after->saved));
 }

@@ -32,20 +32,6 @@ static void instruction(const char *name, uint8_t r5, uint8_t flags, uint8_t a, 
     step_of(name, fresh(r5, flags, 0), image, n);
 }
 
-/* Images that end in an instruction, or after one (02, C-17). */
-static void past_the_image(void)
-{
-    const uint8_t add[2] = { 0x06, 0x05 };
-    const uint8_t undefined[1] = { 0x84 };
-    const uint8_t inc[1] = { 0x5E };
-    const uint8_t jp[3] = { 0x8D, 0x12, 0x34 };
-    step_of("06 05, past its end", fresh(0x44, 0x00, 2), add, sizeof add);
-    step_of("06 05, an operand short", fresh(0x44, 0x00, 0), add, sizeof add);
-    step_of("84, undefined", fresh(0x44, 0x00, 0), undefined, sizeof undefined);
-    step_of("5E, whole", fresh(0x44, 0x00, 0), inc, sizeof inc);
-    step_of("8D 12 34, a jump past it", fresh(0x44, 0x00, 0), jp, sizeof jp);
-}
-
 static void jump(void)
 {
     uint8_t image[18];
@@ -90,12 +76,11 @@ static void make(uint32_t cost)
     printf("entry cost %lu: refusal %d\n", (unsigned long)cost, ref_make(&m, 11, cost));
 }
 
-/* A jump to itself, as a run has to stay within its image. */
 static void run(uint32_t budget)
 {
     struct ref_machine m = fresh(0, 0, 0);
     uint8_t mem[1] = { 0 };
-    uint8_t image[2] = { 0x8B, 0xFE };
+    uint8_t image[1] = { 0xFF };
     uint32_t cycles = 0, ends0 = 0, ends1 = 0;
     int refusal = ref_run(&m, &high, image, sizeof image, mem, sizeof mem, budget, &cycles, &ends0, &ends1);
     printf("budget %lu: refusal %d, cycles %lu\n", (unsigned long)budget, refusal, (unsigned long)cycles);
@@ -124,7 +109,6 @@ int main(void)
     instruction("DECW 0000", 0x00, 0x00, 0x80, 0x04, 0, 2);
     instruction("DJNZ on 1", 0x01, 0x00, 0x5A, 0x10, 0, 2);
     instruction("DJNZ on 0", 0x00, 0x00, 0x5A, 0x10, 0, 2);
-    past_the_image();
     jump();
     grant();
     span("P 3, N 2", 0x0D, 3, 2, 2, 23);

@@ -24,17 +24,18 @@
 /* 004, 10.4.2: "D_7 is the master enable". */
 #define IMR_MASTER     0x80
 
-/* One instruction in its surroundings: the machine and its data memory, the
+/* One instruction in its surroundings: the machine and its memories, the
    program bytes, and the address of the next instruction. */
 struct doing {
     struct ref_machine *m;
     const struct ref_pins *pins;
+    const uint8_t *image;
+    size_t image_length;
     uint8_t *data;
     size_t data_length;
     uint8_t opcode;
     uint8_t first;      /* the byte after the opcode */
     uint8_t second;     /* the byte after that */
-    uint8_t loaded;     /* what LDC and LDCI load from program memory */
     uint16_t next;
 };
 
@@ -340,28 +341,23 @@ static void ld_IR_R(const struct doing *d)
    Ir1, Irr2", "LDCI Ir2, Irr1"). 01: "A pair address drops its lowest bit
    (HOUSE)". ---- */
 
+static uint8_t program_byte(const struct doing *d, uint16_t address)
+{
+    return ref_program(d->image, d->image_length, address);
+}
+
 static uint8_t data_byte(const struct doing *d, uint16_t address)
 {
     return ref_data(d->m, d->data, d->data_length, address);
 }
 
-/* What C2 and C3 load: the byte of program memory at the address in their pair.
-   01: "source values are taken before anything is written". Answers 0, also
-   where the instruction loads none; or 11, by ref_program. C-17: "Stores of LDC
-   and LDCI read nothing", and D2 and D3 are none of these. */
-static int load(struct doing *d, const uint8_t *image, size_t image_length)
-{
-    if (d->opcode != 0xC2 && d->opcode != 0xC3) {
-        return 0;
-    }
-    return ref_program(image, image_length, at_Irr(d, low_nibble(d->first)),
-                       &d->loaded);
-}
-
 /* C2, r <- program memory. */
 static void ldc_r_Irr(const struct doing *d)
 {
-    set(d, at_r(d, high_nibble(d->first)), d->loaded);
+    uint8_t dst = at_r(d, high_nibble(d->first));
+    uint8_t src = program_byte(d, at_Irr(d, low_nibble(d->first)));
+
+    set(d, dst, src);
 }
 
 /* D2, program memory <- r. 01: "LDC and LDCI stores are dropped (HOUSE)." */
@@ -406,8 +402,9 @@ static void ldci_Ir_Irr(const struct doing *d)
     uint8_t r = at_r(d, high_nibble(d->first));
     uint8_t rr = at_r(d, low_nibble(d->first));
     uint8_t dst = at_Ir(d, high_nibble(d->first));
+    uint8_t src = program_byte(d, at_Irr(d, low_nibble(d->first)));
 
-    set(d, dst, d->loaded);
+    set(d, dst, src);
     increment_both(d, r, rr);
 }
 
@@ -797,39 +794,15 @@ static int do_columns_0_to_7_and_F(const struct doing *d)
     return 0;
 }
 
-/* C-17: "Bytes are read in order: the opcode; where it is undefined, 5 and
-   nothing after it is read; its operand bytes, as many as it has". 01: "the
-   program counter is modulo 65,536", so that the byte after FFFF is that at
-   0000. */
-int ref_fetch(const uint8_t *image, size_t image_length, uint16_t address,
-              uint8_t *opcode, uint8_t *first, uint8_t *second,
-              uint8_t *length)
+/* A program byte some way after the program counter. 01: "the program counter
+   is modulo 65,536". */
+static uint8_t fetch(const struct ref_machine *m, const uint8_t *image,
+                     size_t image_length, int after)
 {
-    uint8_t bytes[3] = { 0, 0, 0 };
-    int refusal;
-    int k;
-
-    refusal = ref_program(image, image_length, address, &bytes[0]);
-    if (refusal != 0) {
-        return refusal;
-    }
-    if (!ref_defined(bytes[0])) {
-        return 5;
-    }
-    for (k = 1; k < ref_length(bytes[0]); k++) {
-        refusal = ref_program(image, image_length,
-                              (uint16_t)(((long)address + k) % 65536L),
-                              &bytes[k]);
-        if (refusal != 0) {
-            return refusal;
-        }
-    }
-    return ref_decode(bytes[0], bytes[1], bytes[2], opcode, first, second,
-                      length);
+    return ref_program(image, image_length,
+                       (uint16_t)(((long)m->pc + after) % 65536L));
 }
 
-/* The opcode, its operand bytes, "then what it loads. The first that is past
-   the image is 11" (C-17); all are read before anything is written. */
 int ref_execute(struct ref_machine *m, const struct ref_pins *pins,
                 const uint8_t *image, size_t image_length,
                 uint8_t *data, size_t data_length, uint32_t *cycles)
@@ -839,22 +812,21 @@ int ref_execute(struct ref_machine *m, const struct ref_pins *pins,
     int refusal;
     int outcome;
 
-    refusal = ref_fetch(image, image_length, m->pc, &d.opcode, &d.first,
-                        &d.second, &length);
+    refusal = ref_decode(fetch(m, image, image_length, 0),
+                         fetch(m, image, image_length, 1),
+                         fetch(m, image, image_length, 2),
+                         &d.opcode, &d.first, &d.second, &length);
     if (refusal != 0) {
         return refusal;
     }
 
     d.m = m;
     d.pins = pins;
+    d.image = image;
+    d.image_length = image_length;
     d.data = data;
     d.data_length = data_length;
-    d.loaded = 0;
     d.next = (uint16_t)(((long)m->pc + length) % 65536L);
-    refusal = load(&d, image, image_length);
-    if (refusal != 0) {
-        return refusal;
-    }
 
     m->pc = d.next;                 /* an instruction that jumps sets it anew */
     if (low_nibble(d.opcode) >= 0x8 && low_nibble(d.opcode) <= 0xE) {

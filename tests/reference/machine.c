@@ -382,17 +382,13 @@ void ref_write_pair(struct ref_machine *m, uint8_t address, uint16_t word)
     ref_write(m, odd, (uint8_t)(word % 256));
 }
 
-/* 02, C-17: "reading a program byte past the image is refusal 11". The image's
-   byte i is that of program address i, so an image of 65,536 bytes has none
-   past it. */
-int ref_program(const uint8_t *image, size_t length, uint16_t address,
-                uint8_t *byte)
+/* 01: "Program bytes past the image read FF (HOUSE)." */
+uint8_t ref_program(const uint8_t *image, size_t length, uint16_t address)
 {
-    if (address >= length) {
-        return 11;
+    if (address < length) {
+        return image[address];
     }
-    *byte = image[address];
-    return 0;
+    return 0xFF;
 }
 
 /* 1 where data memory answers at the address, else 0. 01: "Data addresses under

@@ -1,9 +1,9 @@
 /* An independent reference model of the registers, memories, stack, reset,
    saved form and clock of the Zilog Z8601 and Z8611, written from the papers
    alone: 01-scope.md (01), the 1983 manual (004), the control-register bits of
-   002, and change requests C-11, C-13 and C-17 of 02-change-requests.md (02)
-   with the points decided for them (C-11, C-13, C-17) and the bytes of
-   z8-requests.h. 02 decides first, then the requests' points, then a rule marked HOUSE in 01,
+   002, and change requests C-11 and C-13 of 02-change-requests.md (02) with the
+   points decided for them (C-11, C-13) and the bytes of z8-requests.h. 02
+   decides first, then the requests' points, then a rule marked HOUSE in 01,
    then 01's other sentences, then 004, then 002. The timers are those of
    timers.h, by single cycles, and the serial port that of serial.h, by single
    ends of T0.
@@ -84,10 +84,8 @@ uint16_t ref_pair(const struct ref_machine *m, const struct ref_pins *pins,
                   uint8_t address);
 void ref_write_pair(struct ref_machine *m, uint8_t address, uint16_t word);
 
-/* A byte of program memory: 0 and the byte; or 11 where the address is past the
-   image, and then there is none and nothing is written. */
-int ref_program(const uint8_t *image, size_t length, uint16_t address,
-                uint8_t *byte);
+/* A byte of program memory. */
+uint8_t ref_program(const uint8_t *image, size_t length, uint16_t address);
 
 /* A byte of data memory, and a store there. */
 uint8_t ref_data(const struct ref_machine *m, const uint8_t *data,

@@ -229,49 +229,29 @@ static int granted(const struct ref_machine *m)
     return NONE;
 }
 
-/* The word in program memory at an address, "high byte first" (01): 0 and the
-   word; or 11, by ref_program, where either byte is past the image (C-17). */
-static int read_vector(const uint8_t *image, size_t image_length,
-                       uint16_t address, uint16_t *word)
+/* The word in program memory at an address, "high byte first" (01). */
+static uint16_t vector(const uint8_t *image, size_t image_length,
+                       uint16_t address)
 {
-    uint8_t high, low;
-    int refusal;
+    uint8_t high = ref_program(image, image_length, address);
+    uint8_t low = ref_program(image, image_length, (uint16_t)(address + 1));
 
-    refusal = ref_program(image, image_length, address, &high);
-    if (refusal != 0) {
-        return refusal;
-    }
-    refusal = ref_program(image, image_length, (uint16_t)(address + 1), &low);
-    if (refusal != 0) {
-        return refusal;
-    }
-    *word = (uint16_t)(high * 256 + low);
-    return 0;
+    return (uint16_t)(high * 256 + low);
 }
 
 /* 01: "An interrupt grant is a step of the entry cost: it pushes, clears its
    request and bit 7 of IMR, and jumps through the vector at twice its number,
-   high byte first." The vector is read first, as a step refused with 11 "has
-   changed nothing: [...] nothing pushed" (C-17). The rest in this order, so
-   that the two bits are cleared also in bytes that were just pushed onto IRQ or
-   IMR. 01: "A pushed address has its high byte lower; an interrupt's FLAGS lie
-   below it." 004, 10.6, in turn: "PUSH PC lower byte on stack", "PUSH PC upper
-   byte on stack", "PUSH FLAGS on stack". The PC is that of the instruction not
-   yet executed, which may be past the image. Answers 0 and the cost, which is
-   the same for both stacks; or 11, and then nothing is changed. */
-static int grant(struct ref_machine *m, int request,
-                 const uint8_t *image, size_t image_length,
-                 uint8_t *data, size_t data_length, uint32_t *cost)
+   high byte first." In this order, so that the two bits are cleared also in
+   bytes that were just pushed onto IRQ or IMR. 01: "A pushed address has its
+   high byte lower; an interrupt's FLAGS lie below it." 004, 10.6, in turn:
+   "PUSH PC lower byte on stack", "PUSH PC upper byte on stack", "PUSH FLAGS on
+   stack". The PC is that of the instruction not yet executed. Answers the cost,
+   which is the same for both stacks. */
+static uint32_t grant(struct ref_machine *m, int request,
+                      const uint8_t *image, size_t image_length,
+                      uint8_t *data, size_t data_length)
 {
     uint8_t bytes[3];
-    uint16_t routine;
-    int refusal;
-
-    refusal = read_vector(image, image_length, (uint16_t)(2 * request),
-                          &routine);
-    if (refusal != 0) {
-        return refusal;
-    }
 
     bytes[0] = m->file[FLAGS];
     bytes[1] = (uint8_t)(m->pc / 256);
@@ -281,9 +261,8 @@ static int grant(struct ref_machine *m, int request,
     m->file[IRQ] = (uint8_t)(m->file[IRQ] & ~REQUEST(request));
     m->file[IMR] = (uint8_t)(m->file[IMR] & ~IMR_MASTER);
 
-    m->pc = routine;
-    *cost = m->entry_cost;
-    return 0;
+    m->pc = vector(image, image_length, (uint16_t)(2 * request));
+    return m->entry_cost;
 }
 
 /* ---- The step and the run ---- */
@@ -297,11 +276,9 @@ static int grant(struct ref_machine *m, int request,
    its own cycles." So the ends in EI's own six cycles come after it and latch.
 
    Refusal 5: "opcode undefined [...] step and decode: the same", that is
-   "number alone, nothing changed". Refusal 11 likewise: C-17, "A refused step
-   leaves everything as it was before its pins were compared." The edges come
-   before a byte is read, so that LDC's address is what its pair reads after
-   them. So all is done on a copy; the memory is not written before the last
-   refusal is past. C-11: "A refused step has found none", no start bit. */
+   "number alone, nothing changed". The edges come before the opcode is met, so
+   all is done on a copy; the memory is not written before the last refusal is
+   past. C-11: "A refused step has found none", no start bit. */
 int ref_step(struct ref_machine *m, const struct ref_pins *pins,
              const uint8_t *image, size_t image_length,
              uint8_t *data, size_t data_length,
@@ -317,14 +294,13 @@ int ref_step(struct ref_machine *m, const struct ref_pins *pins,
 
     request = granted(&copy);
     if (request != NONE) {
-        refusal = grant(&copy, request, image, image_length, data, data_length,
-                        &cost);
+        cost = grant(&copy, request, image, image_length, data, data_length);
     } else {
         refusal = ref_execute(&copy, pins, image, image_length, data,
                               data_length, &cost);
-    }
-    if (refusal != 0) {
-        return refusal;
+        if (refusal != 0) {
+            return refusal;
+        }
     }
 
     /* "P31 is as in the last pins" (01), and these are by now the pins
@@ -344,8 +320,7 @@ int ref_step(struct ref_machine *m, const struct ref_pins *pins,
    reach the budget, so it spends at most 62 cycles over. Budget 0 changes
    nothing": no step is taken, so no pins are compared and no opcode is met, and
    the numbers are zero. Refusal 4: "number alone, nothing changed". Refusal 5:
-   "Run: state, memory, cycles and ends as after the steps done before"; and by
-   11 "a run stops as for 5" (02, C-17). */
+   "Run: state, memory, cycles and ends as after the steps done before". */
 int ref_run(struct ref_machine *m, const struct ref_pins *pins,
             const uint8_t *image, size_t image_length,
             uint8_t *data, size_t data_length, uint32_t budget,

@@ -33,17 +33,13 @@ use Rattle.opcodes.specs.declared.Target.TheVariants.{Direct, Pair}
 use Rattle.machine.specs.Registers.{read_reg}
 use Rattle.machine.specs.Addresses.{working_at, register_at, indirect_at, working_indirect_at, read_pair}
 use Rattle.machine.specs.Stack.{stack_byte}
-use Rattle.machine.specs.Memory.{program_byte}
 use Rattle.machine.specs.Legal.{Legal}
-use Rattle.machine.specs.declared.memory.ProgramByte.{ProgramByte}
-use Rattle.machine.specs.declared.memory.ProgramByte.TheVariants.{Past, Byte}
 use Rattle.machine.specs.declared.Machine.{Machine}
 use Rattle.machine.specs.declared.Pins.{Pins}
-use Rattle.machine.proofs.Legal.{LegalPins, read_byte, working_byte, register_byte, indexed_byte, pair_word, data_byte_lem, stack_byte_lem}
-use Rattle.machine.proofs.Program.{Fits, program_fits}
+use Rattle.machine.proofs.Legal.{LegalPins, read_byte, working_byte, register_byte, indexed_byte, pair_word, program_byte_lem, data_byte_lem, stack_byte_lem}
 use Rattle.deeds.specs.Modes.{flags_of, upper_at, lower_at, one_at, from_register, operands_of, target_of}
 use Rattle.deeds.specs.Results.{binary_of, test_of, unary_of, paired_of}
-use Rattle.deeds.specs.Pages.{binary_deed, test_deed, unary_deed, paired_deed, adjust_deed, da_deed, ld_deed, clr_deed, ccf_deed, rcf_deed, scf_deed, program_move, data_move, pointed_at, loading, ldc_deed, lde_deed, ldci_deed, ldei_deed, pop_deed, push_deed, call_deed, ret_deed, iret_deed, jp_deed, jr_deed, djnz_deed, deed_of}
+use Rattle.deeds.specs.Pages.{binary_deed, test_deed, unary_deed, paired_deed, adjust_deed, da_deed, ld_deed, clr_deed, ccf_deed, rcf_deed, scf_deed, program_move, data_move, pointed_at, ldc_deed, lde_deed, ldci_deed, ldei_deed, pop_deed, push_deed, call_deed, ret_deed, iret_deed, jp_deed, jr_deed, djnz_deed, deed_of}
 use Rattle.deeds.specs.declared.Code.{Code}
 use Rattle.deeds.specs.declared.Operands.{Operands}
 use Rattle.deeds.specs.declared.Transfer.{Transfer}
@@ -72,7 +68,6 @@ FitDeed (deed.Jump taken a) = a < 65536
 FitDeed (deed.Loop r v taken a) = (r < 256) × (v < 256) × (a < 65536)
 FitDeed deed.EnableInterrupts = Unit {0}
 FitDeed deed.DisableInterrupts = Unit {0}
-FitDeed deed.LoadPast = Unit {0}
 
 -- an instruction's bytes are bytes
 pub record ByteCode (i : Code) : Type 0 where
@@ -182,14 +177,10 @@ module _ (p : Pins) (image mem : List ℕ) (m : Machine) (i : Code) (l : Legal m
   target_fits Pair = pair_word p m (register_at m i.first) l lp
 
   -- ---- memories and the stack
-  loading_fits : (b : ProgramByte) (f : ℕ → Deed) → Fits b → ((v : ℕ) → v < 256 → FitDeed (f v)) → FitDeed (loading b f)
-  loading_fits Past f h fits = tt
-  loading_fits (Byte v) f h fits = fits v h
-
-  program_move_fits : (w : Way) (x a : ℕ) (f : Transfer → Deed) → x < 256 → ((t : Transfer) → FitTransfer t → FitDeed (f t)) → FitDeed (program_move image w x a f)
+  program_fits : (w : Way) (x a : ℕ) → x < 256 → FitTransfer (program_move image w x a)
   unfolding program_move
-  program_move_fits In x a f h fits = loading_fits (program_byte image a) (λ v. f (ToRegister x v)) (program_fits image a li) (λ v k. fits (ToRegister x v) (h, k))
-  program_move_fits Out x a f h fits = fits Dropped tt
+  program_fits In x a h = (h, program_byte_lem image a li)
+  program_fits Out x a h = tt
 
   data_fits : (w : Way) (x a : ℕ) → x < 256 → a < 65536 → FitTransfer (data_move p mem m w x a)
   unfolding data_move
@@ -234,12 +225,9 @@ module _ (p : Pins) (image mem : List ℕ) (m : Machine) (i : Code) (l : Legal m
   deed_fits (Jp t) = jp_fits t
   deed_fits Jr = moved_word m.pc (disp_of i.first)
   deed_fits (Ld w) = two_fits w
-  deed_fits (Ldc w) =
-      program_move_fits w (upper_at m i.first) (pointed_at p m i) (λ t. deed.Move t) (upper_fits i.first lc.first_byte) (λ t h. h)
+  deed_fits (Ldc w) = program_fits w (upper_at m i.first) (pointed_at p m i) (upper_fits i.first lc.first_byte)
   deed_fits (Ldci w) =
-      program_move_fits w (working_indirect_at p m (upper i.first)) (pointed_at p m i) (λ t. deed.Block t (upper_at m i.first) (lower_at m i.first))
-      (through_fits (upper i.first))
-      (λ t h. (h, upper_fits i.first lc.first_byte, lower_fits i.first))
+      (program_fits w (working_indirect_at p m (upper i.first)) (pointed_at p m i) (through_fits (upper i.first)), upper_fits i.first lc.first_byte, lower_fits i.first)
   deed_fits (Lde w) = data_fits w (upper_at m i.first) (pointed_at p m i) (upper_fits i.first lc.first_byte) pointed_fits
   deed_fits (Ldei w) =
       (data_fits w (working_indirect_at p m (upper i.first)) (pointed_at p m i) (through_fits (upper i.first)) pointed_fits, upper_fits i.first lc.first_byte, lower_fits i.first)

@@ -26,8 +26,6 @@ use Rattle.machine.specs.Registers.{read_reg}
 use Rattle.machine.specs.Addresses.{working_indirect_at, read_pair}
 use Rattle.machine.specs.Memory.{program_byte, data_byte}
 use Rattle.machine.specs.Stack.{stack_byte, is_internal}
-use Rattle.machine.specs.declared.memory.ProgramByte.{ProgramByte}
-use Rattle.machine.specs.declared.memory.ProgramByte.TheVariants.{Past, Byte}
 use Rattle.machine.specs.declared.Machine.{Machine}
 use Rattle.machine.specs.declared.Pins.{Pins}
 use Rattle.deeds.specs.Modes.{flags_of, upper_at, lower_at, one_at, operands_of, target_of}
@@ -140,16 +138,10 @@ ld_deed p m w i =
 abbrev pub pointed_at : Pins → Machine → Code → ℕ
 pointed_at p m i = read_pair p m (lower_at m i.first)
 
--- what is done with a byte of the program, where there is one (02, C-17)
-abbrev pub loading : ProgramByte → (ℕ → Deed) → Deed
-loading Past f = deed.LoadPast
-loading (Byte v) f = f v
-
--- between the register at x and program memory at a, and what is done with this transfer. "LDC and LDCI stores are dropped (HOUSE)", so they
--- read nothing.
-unfoldable pub program_move : List ℕ → Way → ℕ → ℕ → (Transfer → Deed) → Deed
-program_move image In x a f = loading (program_byte image a) (λ v. f (ToRegister x v))
-program_move image Out x a f = f Dropped
+-- between the register at x and program memory at a. "LDC and LDCI stores are dropped (HOUSE)."
+unfoldable pub program_move : List ℕ → Way → ℕ → ℕ → Transfer
+program_move image In x a = ToRegister x (program_byte image a)
+program_move image Out x a = Dropped
 
 -- between the register at x and data memory at a
 unfoldable pub data_move : Pins → List ℕ → Machine → Way → ℕ → ℕ → Transfer
@@ -158,7 +150,7 @@ data_move p mem m Out x a = ToMemory a (read_reg p m x)
 
 -- LDC and LDE: the register named is the operand, r
 unfoldable pub ldc_deed : Pins → List ℕ → Machine → Way → Code → Deed
-ldc_deed p image m w i = program_move image w (upper_at m i.first) (pointed_at p m i) (λ t. deed.Move t)
+ldc_deed p image m w i = deed.Move (program_move image w (upper_at m i.first) (pointed_at p m i))
 
 unfoldable pub lde_deed : Pins → List ℕ → Machine → Way → Code → Deed
 lde_deed p mem m w i = deed.Move (data_move p mem m w (upper_at m i.first) (pointed_at p m i))
@@ -166,7 +158,7 @@ lde_deed p mem m w i = deed.Move (data_move p mem m w (upper_at m i.first) (poin
 -- LDCI and LDEI: the register named has the operand's address, Ir. Then r <-- r + 1 and rr <-- rr + 1.
 unfoldable pub ldci_deed : Pins → List ℕ → Machine → Way → Code → Deed
 ldci_deed p image m w i =
-    program_move image w (working_indirect_at p m (upper i.first)) (pointed_at p m i) (λ t. deed.Block t (upper_at m i.first) (lower_at m i.first))
+    deed.Block (program_move image w (working_indirect_at p m (upper i.first)) (pointed_at p m i)) (upper_at m i.first) (lower_at m i.first)
 
 unfoldable pub ldei_deed : Pins → List ℕ → Machine → Way → Code → Deed
 ldei_deed p mem m w i =
@@ -239,23 +231,3 @@ outcome_of m (deed.Jump taken a) = taken
 outcome_of m (deed.Loop r v taken a) = taken
 outcome_of m deed.EnableInterrupts = true
 outcome_of m deed.DisableInterrupts = true
-outcome_of m deed.LoadPast = true
-
--- whether what an instruction was to load is past the image, so that it is refused
-abbrev pub lacks : Deed → Bool
-lacks deed.Nothing = false
-lacks (deed.Move t) = false
-lacks (deed.Store dst o) = false
-lacks (deed.StoreWord dst o) = false
-lacks (deed.Test e) = false
-lacks (deed.Block t r rr) = false
-lacks (deed.Push v) = false
-lacks (deed.Pop dst v) = false
-lacks (deed.Call a) = false
-lacks (deed.Return a) = false
-lacks (deed.ReturnFromInterrupt flags a) = false
-lacks (deed.Jump taken a) = false
-lacks (deed.Loop r v taken a) = false
-lacks deed.EnableInterrupts = false
-lacks deed.DisableInterrupts = false
-lacks deed.LoadPast = true

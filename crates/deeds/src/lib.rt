@@ -2,7 +2,7 @@
 // before anything is written, with RP as it stood" (01). The definitions in specs/ speak of these types; no code makes or takes one but `Code`.
 use alu::{Flags, Outcome, WordOutcome};
 
-// The opcode and two operand bytes. An instruction looks only at those that are its own (`own_bytes_alone`).
+// The opcode and the two bytes that follow it. Of these an instruction looks only at those that are its own.
 #[derive(Drop)]
 pub struct Code {
     pub op: u8,
@@ -53,6 +53,4 @@ pub enum Deed {
     // bit 7 of IMR set, and IRQ released; bit 7 of IMR cleared
     EnableInterrupts,
     DisableInterrupts,
-    // none: what was to be loaded is past the image
-    LoadPast,
 }

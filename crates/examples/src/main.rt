@@ -104,21 +104,6 @@ fn instructions() {
     instruction(b"DJNZ on 0", 0x00, 0x00, &[0x5Au8, 0x10], 0);
 }
 
-// Images that end in an instruction (02, C-17).
-fn past_the_image() {
-    instruction(b"06 05, past its end", 0x44, 0x00, &[0x06u8, 0x05], 2);
-    instruction(b"06 05, an operand short", 0x44, 0x00, &[0x06u8, 0x05], 0);
-    instruction(b"84, undefined", 0x44, 0x00, &[0x84u8], 0);
-    instruction(b"5E, whole", 0x44, 0x00, &[0x5Eu8], 0);
-    instruction(
-        b"8D 12 34, a jump past it",
-        0x44,
-        0x00,
-        &[0x8Du8, 0x12, 0x34],
-        0,
-    );
-}
-
 // 8B FE at 0010.
 fn jump() {
     let mut image = [0xFFu8; 18];
@@ -185,7 +170,7 @@ fn make(cost: u32) {
     end();
 }
 
-// A run of a jump to itself.
+// A run of a program with no bytes, which is all NOPs.
 fn run(budget: u32) {
     let s = fresh(0, 0, 0);
     let l = saved::load(&s);
@@ -194,7 +179,7 @@ fn run(budget: u32) {
     }
     let m = l.machine;
     let mut mem = [0u8; 1];
-    let image = [0x8Bu8, 0xFE];
+    let image = [0xFFu8; 1];
     let r = step::run(m, high(), &image, &mut mem, budget);
     count(b"budget ", budget);
     count(b": refusal ", r.refusal as u32);
@@ -232,7 +217,6 @@ fn longest_span(divider: u8) {
 
 fn main() {
     instructions();
-    past_the_image();
     jump();
     grant();
     spans();

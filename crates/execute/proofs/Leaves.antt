@@ -1,5 +1,5 @@
 -- What an instruction leaves: the last pins of Port 3, and, but for EI, whether IRQ is released.
-use Rattle.std.proofs.Common.{◌≡◌, ℕ, ◌+◌, ◌%◌, ◌<◌, Bool, true, false, ◌||◌, T, eqb, List, sym, refl, ap, ◌∙◌, subst, arith}
+use Rattle.std.proofs.Common.{◌≡◌, ℕ, ◌+◌, ◌%◌, Bool, true, false, ◌||◌, eqb, List, refl, ap, ◌∙◌}
 use Rattle.word.specs.Fields.{high_byte, low_byte}
 use Rattle.word.specs.Words.{plus}
 use Rattle.word.proofs.Computed.{by_test, agree}
@@ -9,21 +9,18 @@ use Rattle.opcodes.specs.declared.Entry.TheVariants.{Blank, Of}
 use Rattle.opcodes.specs.declared.Kind.{Kind}
 use Rattle.opcodes.specs.declared.Kind.TheVariants.{Binary, Test, Unary, Paired, Call, Ccf, Clr, Da, Di, Djnz, Ei, Iret, Jp, Jr, Ld, Ldc, Ldci, Lde, Ldei, Nop, Pop, Push, Rcf, Ret, Scf, Srp}
 use Rattle.opcodes.specs.declared.Target.TheVariants.{Direct, Pair}
-use Rattle.opcodes.specs.declared.Way.{Way}
-use Rattle.opcodes.specs.declared.Way.TheVariants.{In, Out}
 use Rattle.machine.specs.State.{placed, with_pc, with_released}
 use Rattle.machine.specs.Registers.{read_reg, write_reg}
 use Rattle.machine.specs.Addresses.{read_pair}
 use Rattle.machine.specs.Stack.{raised}
 use Rattle.machine.specs.Memory.{program_byte}
-use Rattle.machine.specs.declared.memory.ProgramByte.{ProgramByte}
-use Rattle.machine.specs.declared.memory.ProgramByte.TheVariants.{Past, Byte}
 use Rattle.machine.specs.declared.Machine.{Machine}
 use Rattle.machine.specs.declared.Pins.{Pins}
 use Rattle.machine.specs.declared.Bytes.TheVariants.{One, Two}
+use Rattle.machine.proofs.Legal.{program_byte_lem}
 use Rattle.machine.proofs.Whole.{Keeps, write_keeps, pair_keeps, push_keeps, raise_keeps}
-use Rattle.deeds.specs.Pages.{binary_deed, test_deed, unary_deed, paired_deed, adjust_deed, da_deed, ld_deed, clr_deed, ccf_deed, rcf_deed, scf_deed, loading, program_move, ldc_deed, lde_deed, ldci_deed, ldei_deed, pop_deed, push_deed, call_deed, ret_deed, iret_deed, jp_deed, jr_deed, djnz_deed, deed_of, lacks}
-use Rattle.deeds.specs.Modes.{flags_of, upper_at, lower_at, one_at}
+use Rattle.deeds.specs.Pages.{binary_deed, test_deed, unary_deed, paired_deed, adjust_deed, da_deed, ld_deed, clr_deed, ccf_deed, rcf_deed, scf_deed, ldc_deed, lde_deed, ldci_deed, ldei_deed, pop_deed, push_deed, call_deed, ret_deed, iret_deed, jp_deed, jr_deed, djnz_deed, deed_of}
+use Rattle.deeds.specs.Modes.{flags_of, one_at}
 use Rattle.deeds.specs.declared.Code.{Code}
 use Rattle.alu.specs.Decimal.{da_of}
 use Rattle.alu.specs.declared.Adjusted.{Adjusted}
@@ -34,11 +31,7 @@ use Rattle.deeds.specs.declared.Transfer.TheVariants.{Dropped, ToRegister, ToMem
 use Rattle.deeds.specs.declared.Deed.{Deed}
 use Rattle.deeds.specs.declared.Deed.TheVariants as deed
 use Rattle.execute.specs.Doing.{flagged, stored_at, word_stored_at, transferred, counted_up, pair_counted_up, block_moved, popped, returned, interrupts_to, interrupt_returned, interrupts_enabled, called, jumped, looped, done_of}
-use Rattle.execute.specs.Execute.{Execution, next_of, fetch_of, perform_of, execute_as, execute_fetched, execute_of}
-use Rattle.execute.specs.declared.Fetched.{Fetched}
-use Rattle.execute.specs.declared.Fetched.TheVariants as fetched
-use Rattle.execute.proofs.Legal.{FitFetched, fetch_fits}
-use Rattle.execute.proofs.Reading.{fetched_opcode}
+use Rattle.execute.specs.Execute.{code_at, next_of, perform_of, execute_as, execute_of}
 
 -- n has m's last pins, and is released where m is or where `enabled` says so
 pub record Leaves (enabled : Bool) (m n : Machine) : Type 0 where
@@ -90,26 +83,6 @@ enables (deed.Jump taken a) = false
 enables (deed.Loop r v taken a) = false
 enables deed.EnableInterrupts = true
 enables deed.DisableInterrupts = false
-enables deed.LoadPast = false
-
--- one that isn't done isn't EI's
-refused_enables_none : (d : Deed) → lacks d ≡ true → false ≡ enables d
-refused_enables_none deed.Nothing h = absurd (subst T (sym h) tt)
-refused_enables_none (deed.Move t) h = absurd (subst T (sym h) tt)
-refused_enables_none (deed.Store dst o) h = absurd (subst T (sym h) tt)
-refused_enables_none (deed.StoreWord dst o) h = absurd (subst T (sym h) tt)
-refused_enables_none (deed.Test e) h = absurd (subst T (sym h) tt)
-refused_enables_none (deed.Block t r rr) h = absurd (subst T (sym h) tt)
-refused_enables_none (deed.Push v) h = absurd (subst T (sym h) tt)
-refused_enables_none (deed.Pop dst v) h = absurd (subst T (sym h) tt)
-refused_enables_none (deed.Call a) h = absurd (subst T (sym h) tt)
-refused_enables_none (deed.Return a) h = absurd (subst T (sym h) tt)
-refused_enables_none (deed.ReturnFromInterrupt flags a) h = absurd (subst T (sym h) tt)
-refused_enables_none (deed.Jump taken a) h = absurd (subst T (sym h) tt)
-refused_enables_none (deed.Loop r v taken a) h = absurd (subst T (sym h) tt)
-refused_enables_none deed.EnableInterrupts h = absurd (subst T (sym h) tt)
-refused_enables_none deed.DisableInterrupts h = absurd (subst T (sym h) tt)
-refused_enables_none deed.LoadPast h = refl
 
 -- a deed done
 done_leaves : (p : Pins) (m : Machine) (d : Deed) → Leaves (enables d) m (done_of p m d).machine
@@ -131,7 +104,6 @@ done_leaves p m (deed.Jump taken a) = jump_leaves m taken a
 done_leaves p m (deed.Loop r v taken a) = leaves_on (stores_leave (write_keeps m r v)) (jump_leaves (write_reg m r v) taken a)
 done_leaves p m deed.EnableInterrupts = record { last3_left = refl; released_left = refl }
 done_leaves p m deed.DisableInterrupts = record { last3_left = refl; released_left = refl }
-done_leaves p m deed.LoadPast = nothing_moved m
 
 -- EI's deed is no other kind's
 abbrev is_ei : Kind → Bool
@@ -167,15 +139,6 @@ unfolding adjust_deed
 adjusts_only dst (By o) = refl
 adjusts_only dst NoRow = refl
 
-loads_only : (b : ProgramByte) (f : ℕ → Deed) → ((v : ℕ) → enables (f v) ≡ false) → enables (loading b f) ≡ false
-loads_only Past f none = refl
-loads_only (Byte v) f none = none v
-
-program_moves_only : (image : List ℕ) (w : Way) (x a : ℕ) (f : Transfer → Deed) → ((t : Transfer) → enables (f t) ≡ false) → enables (program_move image w x a f) ≡ false
-unfolding program_move
-program_moves_only image In x a f none = loads_only (program_byte image a) (λ v. f (ToRegister x v)) (λ v. none (ToRegister x v))
-program_moves_only image Out x a f none = none Dropped
-
 module _ (p : Pins) (image mem : List ℕ) (m : Machine) (i : Code) where
   enables_by_kind : (k : Kind) → enables (deed_of p image mem m k i) ≡ is_ei k
   unfolding deed_of binary_deed test_deed unary_deed paired_deed da_deed ld_deed clr_deed ccf_deed rcf_deed scf_deed ldc_deed lde_deed ldci_deed ldei_deed pop_deed push_deed call_deed ret_deed iret_deed jp_deed jr_deed djnz_deed
@@ -195,8 +158,8 @@ module _ (p : Pins) (image mem : List ℕ) (m : Machine) (i : Code) where
   enables_by_kind (Jp Pair) = refl
   enables_by_kind Jr = refl
   enables_by_kind (Ld w) = refl
-  enables_by_kind (Ldc w) = program_moves_only image w _ _ (λ t. deed.Move t) (λ t. refl)
-  enables_by_kind (Ldci w) = program_moves_only image w _ _ (λ t. deed.Block t (upper_at m i.first) (lower_at m i.first)) (λ t. refl)
+  enables_by_kind (Ldc w) = refl
+  enables_by_kind (Ldci w) = refl
   enables_by_kind (Lde w) = refl
   enables_by_kind (Ldei w) = refl
   enables_by_kind Nop = refl
@@ -207,51 +170,34 @@ module _ (p : Pins) (image mem : List ℕ) (m : Machine) (i : Code) where
   enables_by_kind Scf = refl
   enables_by_kind Srp = refl
 
--- so by the opcode: EI's is 9F
 abbrev is_ei_entry : Entry → Bool
 is_ei_entry Blank = false
 is_ei_entry (Of k) = is_ei k
 
-by_opcode : (op : ℕ) → op < 256 → is_ei_entry (entry_of op) ≡ eqb op 0x9F
-unfolding entry_of opcode_map
-by_opcode op h = agree (λ x. is_ei_entry (entry_of x)) (λ x. eqb x 0x9F) 256 refl op h
+pub execute_leaves : (p : Pins) (image mem : List ℕ) (m : Machine)
+    → Leaves (is_ei_entry (entry_of (code_at image m.pc).op)) m (execute_of p image mem m).machine
+unfolding execute_of execute_as perform_of with_pc
+execute_leaves p image mem m = go (entry_of (code_at image m.pc).op)
+  where
+    i : Code
+    i = code_at image m.pc
 
--- a byte of the program is EI's opcode
-abbrev pub is_ei_byte : ProgramByte → Bool
-is_ei_byte Past = false
-is_ei_byte (Byte op) = eqb op 0x9F
+    n : Machine
+    n = next_of m i
 
-module _ (p : Pins) (image mem : List ℕ) (m : Machine) where
-  -- (an instruction of two or three bytes that is refused is not EI)
-  entry_leaves : (e : Entry) (i : Code) → Leaves (is_ei_entry e) m (execute_as p image mem m e i).machine
-  unfolding execute_as perform_of with_pc
-  entry_leaves Blank i = record { last3_left = refl; released_left = refl }
-  entry_leaves (Of k) i =
-      let n = next_of m i in
-      let d = deed_of p image mem n k i in
-      let done : Leaves (enables d) n (done_of p n d).machine = done_leaves p n d in
-      let asked : enables d ≡ is_ei k = enables_by_kind p image mem n i k in
-      by_test (λ (x : Execution). Leaves (is_ei k) m x.machine) (lacks d)
-      (λ t. record { last3_left = refl; released_left = ap (λ (b : Bool). b || m.released) (refused_enables_none d t ∙ asked) })
-      (λ t. record { last3_left = done.last3_left; released_left = done.released_left ∙ ap (λ (b : Bool). b || m.released) asked })
+    go : (e : Entry) → Leaves (is_ei_entry e) m (execute_as p image mem m e i).machine
+    go Blank = record { last3_left = refl; released_left = refl }
+    go (Of k) =
+        let d = deed_of p image mem n k i in
+        let done : Leaves (enables d) n (done_of p n d).machine = done_leaves p n d in
+        let asked : enables d ≡ is_ei k = enables_by_kind p image mem n i k in
+        record { last3_left = done.last3_left; released_left = done.released_left ∙ ap (λ (b : Bool). b || m.released) asked }
 
-  pub execute_leaves_last3 : (execute_of p image mem m).machine.last3 ≡ m.last3
-  unfolding execute_of execute_fetched
-  execute_leaves_last3 = go (fetch_of image m.pc)
-    where
-      go : (f : Fetched) → (execute_fetched p image mem m f).machine.last3 ≡ m.last3
-      go fetched.Past = refl
-      go (fetched.Bytes i) = (entry_leaves (entry_of i.op) i).last3_left
-
-  -- "EI alone releases", opcode 9F: an instruction leaves a machine released where it was so before, and where it is EI
-  pub ei_alone_releases : AllRead image → (execute_of p image mem m).refusal ≡ 0
-      → (execute_of p image mem m).machine.released ≡ is_ei_byte (program_byte image m.pc) || m.released
-  unfolding execute_of execute_fetched
-  ei_alone_releases all = go (fetch_of image m.pc) refl (fetch_fits image m.pc all)
-    where
-      go : (f : Fetched) → fetch_of image m.pc ≡ f → FitFetched f → (execute_fetched p image mem m f).refusal ≡ 0
-          → (execute_fetched p image mem m f).machine.released ≡ is_ei_byte (program_byte image m.pc) || m.released
-      go fetched.Past e h d = absurd (omega (arith, d))
-      go (fetched.Bytes i) e h d =
-          let asked : is_ei_entry (entry_of i.op) ≡ is_ei_byte (program_byte image m.pc) = rw (fetched_opcode image m.pc i e) (by_opcode i.op h.op_byte) in
-          (entry_leaves (entry_of i.op) i).released_left ∙ ap (λ (b : Bool). b || m.released) asked
+-- "EI alone releases", opcode 9F: an instruction leaves a machine released where it was so before, and where it is EI
+pub ei_alone_releases : (p : Pins) (image mem : List ℕ) (m : Machine) → AllRead image
+    → (execute_of p image mem m).machine.released ≡ eqb (program_byte image m.pc) 0x9F || m.released
+unfolding code_at entry_of opcode_map
+ei_alone_releases p image mem m all =
+    let op = program_byte image m.pc in
+    let by_opcode : is_ei_entry (entry_of op) ≡ eqb op 0x9F = agree (λ x. is_ei_entry (entry_of x)) (λ x. eqb x 0x9F) 256 refl op (program_byte_lem image m.pc all) in
+    (execute_leaves p image mem m).released_left ∙ ap (λ (b : Bool). b || m.released) by_opcode

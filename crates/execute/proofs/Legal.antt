@@ -1,5 +1,5 @@
 -- A legal machine stays legal through every instruction, and what is to be stored in data memory are bytes.
-use Rattle.std.proofs.Common.{ℕ, ◌+◌, ◌%◌, ◌<◌, Bool, true, false, ltb, List, arith, lit<}
+use Rattle.std.proofs.Common.{ℕ, ◌+◌, ◌%◌, ◌<◌, Bool, true, false, List, arith, lit<}
 use Rattle.word.specs.Fields.{high_byte, low_byte}
 use Rattle.word.specs.Words.{plus}
 use Rattle.word.proofs.Computed.{by_test}
@@ -15,9 +15,7 @@ use Rattle.machine.specs.State.{held, placed, with_pc}
 use Rattle.word.specs.Choose.{bits_if}
 use Rattle.machine.specs.Registers.{read_reg}
 use Rattle.machine.specs.Addresses.{read_pair}
-use Rattle.machine.specs.Memory.{program_byte, list_of}
-use Rattle.machine.specs.declared.memory.ProgramByte.{ProgramByte}
-use Rattle.machine.specs.declared.memory.ProgramByte.TheVariants.{Past, Byte}
+use Rattle.machine.specs.Memory.{list_of}
 use Rattle.machine.specs.Stack.{Stacked, is_internal, pushed_internal, pushed_external, pushed}
 use Rattle.machine.specs.Legal.{may_hold, Legal}
 use Rattle.machine.specs.declared.Machine.{Machine}
@@ -26,10 +24,9 @@ use Rattle.machine.specs.declared.Bytes.{Bytes}
 use Rattle.machine.specs.declared.Bytes.TheVariants.{One, Two}
 use Rattle.machine.specs.declared.Stores.{Stores}
 use Rattle.machine.specs.declared.Stores.TheVariants.{Nothing, At}
-use Rattle.machine.proofs.Legal.{LegalPins, AllBytes, placed_legal, write_legal, pair_legal, pushed_legal, raised_legal, pc_legal, released_legal}
-use Rattle.machine.proofs.Program.{Fits, program_fits}
+use Rattle.machine.proofs.Legal.{LegalPins, AllBytes, placed_legal, write_legal, pair_legal, pushed_legal, raised_legal, pc_legal, released_legal, program_byte_lem}
 use Rattle.deeds.specs.Modes.{flags_of}
-use Rattle.deeds.specs.Pages.{deed_of, lacks}
+use Rattle.deeds.specs.Pages.{deed_of}
 use Rattle.deeds.specs.declared.Code.{Code}
 use Rattle.deeds.specs.declared.Transfer.{Transfer}
 use Rattle.deeds.specs.declared.Transfer.TheVariants.{Dropped, ToRegister, ToMemory}
@@ -37,9 +34,7 @@ use Rattle.deeds.specs.declared.Deed.{Deed}
 use Rattle.deeds.specs.declared.Deed.TheVariants as deed
 use Rattle.deeds.proofs.Fits.{FitTransfer, FitDeed, ByteCode, AllRead, deed_fits}
 use Rattle.execute.specs.Doing.{flagged, stored_at, word_stored_at, transferred, counted_up, pair_counted_up, block_moved, popped, returned, interrupts_to, interrupt_returned, interrupts_enabled, called, jumped, looped, done_of}
-use Rattle.execute.specs.Execute.{Execution, bytes_of, operand_at, read, fetch_of, perform_of, execute_as, execute_fetched, execute_of}
-use Rattle.execute.specs.declared.Fetched.{Fetched}
-use Rattle.execute.specs.declared.Fetched.TheVariants as fetched
+use Rattle.execute.specs.Execute.{Execution, code_at, perform_of, execute_as, execute_of}
 
 -- FLAGS and IMR may hold any byte
 any_may : {m : Machine} (v : ℕ) → Legal m → v < 256 → Legal (placed m 0xFC v)
@@ -99,7 +94,6 @@ done_legal p m (deed.Jump taken a) l f = jumped_legal taken a l f
 done_legal p m (deed.Loop r v taken a) l f = jumped_legal taken a (write_legal l r v f.0 f.1) f.2
 done_legal p m deed.EnableInterrupts l f = released_legal (interrupts_legal true l)
 done_legal p m deed.DisableInterrupts l f = interrupts_legal false l
-done_legal p m deed.LoadPast l f = l
 
 -- what is to be stored in data memory
 abbrev pub FitStores : Stores → Type 0
@@ -133,30 +127,15 @@ done_fits p m (deed.Jump taken a) l f = tt
 done_fits p m (deed.Loop r v taken a) l f = tt
 done_fits p m deed.EnableInterrupts l f = tt
 done_fits p m deed.DisableInterrupts l f = tt
-done_fits p m deed.LoadPast l f = tt
 
--- what was fetched, if it is all there, are bytes
-abbrev pub FitFetched : Fetched → Type 0
-FitFetched fetched.Past = Unit {0}
-FitFetched (fetched.Bytes i) = ByteCode i
-
-read_fits : (b : ProgramByte) (f : ℕ → Fetched) → Fits b → ((v : ℕ) → v < 256 → FitFetched (f v)) → FitFetched (read b f)
-read_fits Past f h fits = tt
-read_fits (Byte v) f h fits = fits v h
-
-operand_fits : (image : List ℕ) (pc op n : ℕ) → AllRead image → Fits (operand_at image pc op n)
-unfolding operand_at
-operand_fits image pc op n all = by_test Fits (ltb n (bytes_of op)) (λ t. program_fits image (plus pc n) all) (λ t. lit< tt)
-
-pub fetch_fits : (image : List ℕ) (pc : ℕ) → AllRead image → FitFetched (fetch_of image pc)
-unfolding fetch_of
-fetch_fits image pc all =
-    read_fits (program_byte image pc) _ (program_fits image pc all)
-    (λ op h.
-    read_fits (operand_at image pc op 1) _ (operand_fits image pc op 1 all)
-    (λ a ha.
-    read_fits (operand_at image pc op 2) _ (operand_fits image pc op 2 all)
-    (λ b hb. record { op_byte = h; first_byte = ha; second_byte = hb })))
+code_bytes : (image : List ℕ) (pc : ℕ) → AllRead image → ByteCode (code_at image pc)
+unfolding code_at
+code_bytes image pc all =
+    record {
+      op_byte = program_byte_lem image pc all;
+      first_byte = program_byte_lem image (plus pc 1) all;
+      second_byte = program_byte_lem image (plus pc 2) all;
+    }
 
 -- an execution that leaves a legal machine, and bytes for data memory
 pub record Sound (x : Execution) : Type 0 where
@@ -170,18 +149,12 @@ perform_sound p image mem m k i l lp li lm lc =
     let at = with_pc m (plus m.pc (length_of i.op)) in
     let l₁ = pc_legal (plus m.pc (length_of i.op)) l (omega arith) in
     let f = deed_fits p image mem at i l₁ lp li lm lc k in
-    by_test Sound (lacks (deed_of p image mem at k i))
-    (λ t. record { legal = l; fit = tt })
-    (λ t. record { legal = done_legal p at (deed_of p image mem at k i) l₁ f; fit = done_fits p at (deed_of p image mem at k i) l₁ f })
+    record { legal = done_legal p at (deed_of p image mem at k i) l₁ f; fit = done_fits p at (deed_of p image mem at k i) l₁ f }
 
 pub execute_sound : (p : Pins) (image mem : List ℕ) (m : Machine) → Legal m → LegalPins p → AllRead image → AllRead mem → Sound (execute_of p image mem m)
-unfolding execute_of execute_as execute_fetched
-execute_sound p image mem m l lp li lm = whole (fetch_of image m.pc) (fetch_fits image m.pc li)
+unfolding execute_of execute_as
+execute_sound p image mem m l lp li lm = go (entry_of (code_at image m.pc).op)
   where
-    by_entry_lem : (e : Entry) (i : Code) → ByteCode i → Sound (execute_as p image mem m e i)
-    by_entry_lem Blank i h = record { legal = l; fit = tt }
-    by_entry_lem (Of k) i h = perform_sound p image mem m k i l lp li lm h
-
-    whole : (f : Fetched) → FitFetched f → Sound (execute_fetched p image mem m f)
-    whole fetched.Past h = record { legal = l; fit = tt }
-    whole (fetched.Bytes i) h = by_entry_lem (entry_of i.op) i h
+    go : (e : Entry) → Sound (execute_as p image mem m e (code_at image m.pc))
+    go Blank = record { legal = l; fit = tt }
+    go (Of k) = perform_sound p image mem m k (code_at image m.pc) l lp li lm (code_bytes image m.pc li)

@@ -1,4 +1,3 @@
-pub mod Own
 pub mod Legal
-pub mod Reading
+pub mod Theorems
 pub mod Leaves

@@ -108,4 +108,3 @@ done_of p m (deed.Jump taken a) = no_stores (jumped m taken a)
 done_of p m (deed.Loop r v taken a) = no_stores (looped m r v taken a)
 done_of p m deed.EnableInterrupts = no_stores (interrupts_enabled m)
 done_of p m deed.DisableInterrupts = no_stores (interrupts_to m false)
-done_of p m deed.LoadPast = no_stores m

@@ -1,6 +1,7 @@
 -- Edges and a grant before the first EI (02, C-13): compared pins and an entry release nothing, and held, IRQ stays zero.
 use mathlib.Core.Path.{◌≡◌, ◌∙◌, refl, sym, subst, ap}
 use mathlib.Core.Bool.{Bool, not, false, ◌&&◌}
+use mathlib.Core.List.{List}
 use Prim.Native.Nat.{ℕ, ◌<◌}
 use Rattle.word.specs.Fields.{high_byte, low_byte}
 use Rattle.word.proofs.Computed.{by_test}
@@ -55,6 +56,6 @@ compare_latches_none m given l h held-yet =
     let after = (compared_of m given).machine in
     fits_zero (moving_of after).lines.requests (compared_legal given l h).moving.requests_fit_lem (compare_releases_none m given ∙ held-yet)
 
-pub entry_releases_none : (m : Machine) (to n : ℕ) → (entered_of to m n).machine.released ≡ m.released
+pub entry_releases_none : (m : Machine) (image : List ℕ) (n : ℕ) → (entered_of image m n).machine.released ≡ m.released
 unfolding entered_of acknowledged interrupts_to placed with_pc
-entry_releases_none m to n = (push_keeps m (Three (flags_of m) (high_byte m.pc) (low_byte m.pc))).released_kept
+entry_releases_none m image n = (push_keeps m (Three (flags_of m) (high_byte m.pc) (low_byte m.pc))).released_kept

@@ -19,22 +19,16 @@ use Rattle.machine.specs.Clock.{control_of, moving_of}
 use Rattle.machine.specs.Serial.{port_mode}
 use Rattle.machine.specs.Legal.{Legal}
 use Rattle.serial.specs.declared.Mode.{Mode}
-use Rattle.machine.specs.Memory.{program_byte}
-use Rattle.machine.specs.declared.memory.ProgramByte.{ProgramByte}
-use Rattle.machine.specs.declared.memory.ProgramByte.TheVariants.{Past, Byte}
 use Rattle.machine.specs.declared.Machine.{Machine}
 use Rattle.machine.specs.declared.Bytes.TheVariants.{Three}
-use Rattle.machine.proofs.Legal.{fits_may, placed_legal, pc_legal, last3_legal, moved_legal, setting_of_lem, pushed_legal}
-use Rattle.machine.proofs.Program.{Fits, program_fits}
+use Rattle.machine.proofs.Legal.{fits_may, placed_legal, pc_legal, last3_legal, moved_legal, setting_of_lem, pushed_legal, program_byte_lem}
 use Rattle.machine.proofs.Whole.{push_keeps}
 use Rattle.deeds.specs.Modes.{flags_of}
 use Rattle.deeds.proofs.Fits.{AllRead}
 use Rattle.execute.specs.Doing.{interrupts_to}
 use Rattle.execute.proofs.Legal.{FitStores, interrupts_legal, pushed_fits}
 use Rattle.interrupts.specs.Edges.{fell, moved_by_edges, compared_of}
-use Rattle.interrupts.specs.Entry.{cleared, routine_by, vector_of, acknowledged, entered_of}
-use Rattle.interrupts.specs.declared.entry.Routine.{Routine}
-use Rattle.interrupts.specs.declared.entry.Routine.TheVariants as routine
+use Rattle.interrupts.specs.Entry.{cleared, vector_of, acknowledged, entered_of}
 use Rattle.interrupts.proofs.Latches.{edges_legal_moving}
 
 edges_legal : {m : Machine} (given : ℕ) → Legal m → LegalMoving (moved_by_edges m given).moving
@@ -59,42 +53,28 @@ flags_byte : {m : Machine} → Legal m → flags_of m < 256
 flags_byte l = l.file.bytes 0xFC
 
 -- a request entered
-acknowledged_legal : {m : Machine} (to n : ℕ) → Legal m → to < 65536 → Legal (acknowledged to n m)
-unfolding acknowledged cleared moving_of
-acknowledged_legal {m} to n l word =
+acknowledged_legal : {m : Machine} (image : List ℕ) (n : ℕ) → Legal m → AllRead image → Legal (acknowledged image n m)
+unfolding acknowledged cleared vector_of moving_of
+acknowledged_legal {m} image n l all =
     let r = (moving_of m).lines.requests in
     let fewer : bit_and (held m 0xFA) (255 - 2 ^ n) ≤ held m 0xFA = and_le_l (held m 0xFA) (255 - 2 ^ n) in
     let fits = fewer_fit r (bit_and (held m 0xFA) (255 - 2 ^ n)) l.moving.requests_fit_lem fewer in
     let byte = fits_irq r l.moving.requests_fit_lem in
     pc_legal _ (interrupts_legal false (placed_legal 0xFA _ l (lit< tt) (omega (arith, fewer, byte)) (fits_may m.released _ fits)))
-    word
+    (omega (arith, program_byte_lem image (2 * n) all, program_byte_lem image (2 * n + 1) all))
 
-pub entered_legal : {m : Machine} (to n : ℕ) → Legal m → to < 65536 → Legal (entered_of to m n).machine
+pub entered_legal : {m : Machine} (image : List ℕ) (n : ℕ) → Legal m → AllRead image → Legal (entered_of image m n).machine
 unfolding entered_of
-entered_legal {m} to n l word =
-    acknowledged_legal to n
-    (pushed_legal (Three (flags_of m) (high_byte m.pc) (low_byte m.pc)) l (flags_byte l, (omega (arith, l.pc_word), (omega arith, tt)))) word
+entered_legal {m} image n l all =
+    acknowledged_legal image n
+    (pushed_legal (Three (flags_of m) (high_byte m.pc) (low_byte m.pc)) l (flags_byte l, (omega (arith, l.pc_word), (omega arith, tt)))) all
 
--- a vector's two bytes are an address
-abbrev pub FitRoutine : Routine → Type 0
-FitRoutine routine.Past = Unit {0}
-FitRoutine (routine.At to) = to < 65536
-
-routine_fits : (hi lo : ProgramByte) → Fits hi → Fits lo → FitRoutine (routine_by hi lo)
-routine_fits Past lo h k = tt
-routine_fits (Byte hi) Past h k = tt
-routine_fits (Byte hi) (Byte lo) h k = omega (arith, h, k)
-
-pub vector_fits : (image : List ℕ) (n : ℕ) → AllRead image → FitRoutine (vector_of image n)
-unfolding vector_of
-vector_fits image n all = routine_fits (program_byte image (2 * n)) (program_byte image (2 * n + 1)) (program_fits image (2 * n) all) (program_fits image (2 * n + 1) all)
-
-pub entered_fits : (m : Machine) (to n : ℕ) → Legal m → FitStores (entered_of to m n).stores
+pub entered_fits : (m : Machine) (image : List ℕ) (n : ℕ) → Legal m → FitStores (entered_of image m n).stores
 unfolding entered_of
-entered_fits m to n l =
+entered_fits m image n l =
     pushed_fits m (Three (flags_of m) (high_byte m.pc) (low_byte m.pc)) (flags_byte l, (omega (arith, l.pc_word), (omega arith, tt)))
 
 -- and the last pins stay
-pub entered_leaves : (m : Machine) (to n : ℕ) → (entered_of to m n).machine.last3 ≡ m.last3
+pub entered_leaves : (m : Machine) (image : List ℕ) (n : ℕ) → (entered_of image m n).machine.last3 ≡ m.last3
 unfolding entered_of acknowledged interrupts_to placed with_pc
-entered_leaves m to n = (push_keeps m (Three (flags_of m) (high_byte m.pc) (low_byte m.pc))).last3_kept
+entered_leaves m image n = (push_keeps m (Three (flags_of m) (high_byte m.pc) (low_byte m.pc))).last3_kept

@@ -2,7 +2,7 @@
 use mathlib.Core.Path.{◌≡◌, refl, ap, ◌∙◌, subst}
 use mathlib.Core.Bool.{Bool, true, false, ◌&&◌}
 use mathlib.Core.List.{List, [], ◌∷◌, ◌++◌}
-use Prim.Native.Nat.{ℕ, zero, suc, ◌≤◌, ◌<◌, ◌/◌, ◌%◌, ◌^◌}
+use Prim.Native.Nat.{ℕ, zero, suc, ◌<◌, ◌/◌, ◌%◌, ◌^◌}
 use native.Mathlib.Omega.{arith}
 use native.Mathlib.Nat.{zero-div}
 use lib.Bits.{bit_and}
@@ -13,7 +13,7 @@ use Rattle.word.proofs.Computed.{NoneOf, and_left, and_right, at}
 use Rattle.interrupts.specs.declared.grants.Grant.{Grant}
 use Rattle.interrupts.specs.declared.grants.Grant.TheVariants.{Nothing, Request}
 use Rattle.interrupts.specs.Grants.{group_a, group_b, group_c, ordered, priorities, first_standing, granted}
-use Rattle.interrupts.specs.ForCode.{standing_of, or_else, number_of}
+use Rattle.interrupts.specs.ForCode.{standing_of, or_else}
 
 module _ (standing : ℕ) where
   -- the first of two lists together is the first of the one, or else of the other
@@ -93,18 +93,3 @@ granted_low irq imr ipr n h e = go (is_set 7 imr) e
     go : (b : Bool) → pick b (first_standing (priorities ipr) (bit_and irq imr)) Nothing ≡ Request n → n < 6
     go true d = first_low (priorities ipr) (bit_and irq imr) n (priorities_low ipr h) d
     go false d = absurd (subst (λ (g : Grant). is_nothing g) d tt)
-
--- so its number tells it: a request's is under 6, and 6 is none
-pub number_tells : (irq imr ipr : ℕ) → ipr < 256 → number_of (granted irq imr ipr) < 6 → granted irq imr ipr ≡ Request (number_of (granted irq imr ipr))
-number_tells irq imr ipr h = go (granted irq imr ipr)
-  where
-    go : (g : Grant) → number_of g < 6 → g ≡ Request (number_of g)
-    go Nothing low = absurd (omega (arith, low))
-    go (Request n) low = refl
-
-pub number_none : (irq imr ipr : ℕ) → ipr < 256 → 6 ≤ number_of (granted irq imr ipr) → granted irq imr ipr ≡ Nothing
-number_none irq imr ipr h = go (granted irq imr ipr) refl
-  where
-    go : (g : Grant) → granted irq imr ipr ≡ g → 6 ≤ number_of g → g ≡ Nothing
-    go Nothing e high = refl
-    go (Request n) e high = let low = granted_low irq imr ipr n h e in absurd (omega (arith, low, high))

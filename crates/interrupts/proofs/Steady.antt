@@ -13,7 +13,7 @@ use Rattle.timers.specs.Clock.{begun}
 use Rattle.machine.specs.State.{held, placed, with_last3, with_released, with_port}
 use Rattle.machine.specs.Clock.{moving_of, moved_to, counts_at}
 use Rattle.machine.specs.declared.Machine.{Machine}
-use Rattle.machine.proofs.Lens.{put_own, put_other}
+use Rattle.machine.proofs.Lens.{put_own, put_irq, put_other}
 use Rattle.interrupts.specs.Edges.{Comparison, fell, latched_by, started_by, moved_by_edges, compared_of}
 use Rattle.interrupts.specs.ForCode.{any_fell}
 
@@ -72,6 +72,12 @@ compared_again m given h e = rw (← e) (sym (steady m m.last3 h (same_steady m.
 pub compared_last : (m : Machine) (given : ℕ) → (compared_of m given).machine.last3 ≡ given
 unfolding compared_of with_last3
 compared_last m given = refl
+
+-- IRQ then
+pub requests_seen : (m : Machine) (given : ℕ) → length m.regs ≡ 256 → held m 0xF1 < 256
+    → held (compared_of m given).machine 0xFA ≡ (moved_by_edges m given).moving.lines.requests.irq
+unfolding compared_of with_last3
+requests_seen m given long h = put_irq m long h (moved_by_edges m given).moving
 
 -- what comparing the pins leaves: the program counter, type and entry cost, and every place but TMR and IRQ
 pub record Left (m n : Machine) : Type 0 where

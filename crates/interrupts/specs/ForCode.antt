@@ -19,11 +19,6 @@ any_fell last given = not (eqb (bit_and (last % 16) (15 - given % 16)) 0)
 unfoldable pub standing_of : ℕ → ℕ → ℕ
 standing_of irq imr = pick (is_set 7 imr) (bit_and irq imr) 0
 
--- a grant as a number: 6 where there is none
-abbrev pub number_of : Grant → ℕ
-number_of Nothing = 6
-number_of (Request n) = n
-
 -- the first grant, or else the second
 unfoldable pub or_else : Grant → Grant → Grant
 or_else Nothing second = second

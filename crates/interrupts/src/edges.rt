@@ -1,12 +1,14 @@
-// Falling edges of the Port 3 pins.
+// Falling edges of the Port 3 pins. `requests` looks ahead and stores nothing, `compare` stores.
 ghost use Rattle.std.specs.Prelude.{◌≡◌, ◌<◌};
+ghost use Rattle.machine.specs.Names.{IRQ};
+ghost use Rattle.machine.specs.State.{held};
 ghost use Rattle.machine.specs.Legal.{Legal};
 ghost use Rattle.lent.specs.View.{machine_in};
 ghost use Rattle.interrupts.specs.Edges.{fell, latched_by, started_by, moved_by_edges, compared_of};
 ghost use Rattle.interrupts.specs.ForCode.{comparison, any_fell};
 
 use lent::Rest;
-use machine::File;
+use machine::{File, names};
 use serial::Port;
 use timers::{Lines, RequestRegister, Spanned};
 
@@ -89,6 +91,23 @@ fn moved(regs: &File, rest: &Rest, given: u8) -> Spanned
             ends1: 0,
         }
     }
+}
+
+// IRQ as it stands when the pins have been compared.
+pub fn requests(regs: &File, rest: &Rest, given: u8) -> u8
+    requires { Legal (machine_in regs.now rest.now) }
+    ensures { result ≡ held (compared_of (machine_in regs.now rest.now) given).machine IRQ }
+{
+    let last = lent::last3(rest);
+    let any = any_fell(last, given);
+    if !any {
+        return machine::file::held(regs, names::IRQ);
+    }
+    let x = moved(regs, rest, given);
+    let after = x.moving;
+    let lines = after.lines;
+    let requests = lines.requests;
+    requests.irq
 }
 
 // The pins compared, and T1's ends by that.

@@ -4,15 +4,7 @@ ghost use Rattle.lent.specs.View.{core_in, machine_in, left, stacked};
 ghost use Rattle.interrupts.specs.Entry.{cleared, vector_of, entered_of};
 
 use lent::Rest;
-use machine::memory::ProgramByte;
 use machine::{Bytes, File, names};
-
-// Where a request's routine begins, or that its vector is past the image.
-#[derive(Drop)]
-pub enum Routine {
-    Past,
-    At(u16),
-}
 
 // IRQ with request n cleared.
 fn cleared(n: u8, irq: u8) -> u8
@@ -22,36 +14,27 @@ fn cleared(n: u8, irq: u8) -> u8
     irq & !(1 << n)
 }
 
-// Where request n's vector says that its routine begins.
-pub fn vector(image: &[u8], n: u8) -> Routine
+// The address that request n's vector holds.
+fn vector(image: &[u8], n: u8) -> u16
     requires { n < 6 }
     ensures { result ≡ vector_of image.now n }
 {
     let at = 2 * n as u16;
-    let high = machine::memory::program(image, at);
-    let low = machine::memory::program(image, at + 1);
-    match high {
-        ProgramByte::Past => Routine::Past,
-        ProgramByte::Byte(hi) => match low {
-            ProgramByte::Past => Routine::Past,
-            ProgramByte::Byte(lo) => {
-                let to = word::word(hi, lo);
-                Routine::At(to)
-            }
-        },
-    }
+    let hi = machine::memory::program(image, at);
+    let lo = machine::memory::program(image, at + 1);
+    word::word(hi, lo)
 }
 
-// Request n entered, its routine being at `to`: PC and FLAGS are pushed, then the request and IMR's bit 7 are cleared, also in bytes just
-// pushed there.
-pub fn enter(regs: &mut File, rest: &mut Rest, mem: &mut [u8], n: u8, to: u16)
+// Request n entered: PC and FLAGS are pushed, then the request and IMR's bit 7 are cleared, also in bytes just pushed there.
+pub fn enter(regs: &mut File, rest: &mut Rest, mem: &mut [u8], image: &[u8], n: u8)
     requires { n < 6 }
-    ensures { left (machine_in regs.new rest.new) mem.new ≡ stacked (core_in rest.old).kind mem.old (entered_of to (machine_in regs.old rest.old) n) }
+    ensures { left (machine_in regs.new rest.new) mem.new ≡ stacked (core_in rest.old).kind mem.old (entered_of image.now (machine_in regs.old rest.old) n) }
 {
     let pc = lent::pc(rest);
     let flags = execute::doing::flags(regs, rest);
     let hi = word::high_byte(pc);
     let lo = word::low_byte(pc);
+    let to = vector(image, n);
     let b = Bytes::Three(flags, hi, lo);
     registers::stack::push(regs, rest, mem, b);
     let irq = machine::file::held(regs, names::IRQ);

@@ -1,7 +1,7 @@
 // Which request is granted.
 ghost use Rattle.std.specs.Prelude.{◌≡◌, [], ◌∷◌, ◌<◌};
 ghost use Rattle.interrupts.specs.Grants.{group_order, group_a, group_b, group_c, priorities, first_standing, granted};
-ghost use Rattle.interrupts.specs.ForCode.{standing_of, or_else, number_of};
+ghost use Rattle.interrupts.specs.ForCode.{standing_of, or_else};
 
 #[derive(Drop)]
 pub enum Grant {
@@ -114,21 +114,13 @@ pub fn standing(irq: u8, imr: u8) -> u8
     if enabled { irq & imr } else { 0 }
 }
 
-// No request's number.
-pub const NONE: u8 = 6;
-
-// What is granted, asked at each step: its number, or NONE. Mostly nothing stands, which is seen without asking IPR. (It is a number because a
-// `Grant` that may come from here or from `highest` would go through memory at each step.)
-pub fn granted(irq: u8, imr: u8, ipr: u8) -> u8
-    ensures { result ≡ number_of (granted irq imr ipr) }
+// What is granted, asked at each step. Mostly nothing stands, which is seen without asking IPR.
+pub fn granted(irq: u8, imr: u8, ipr: u8) -> Grant
+    ensures { result ≡ granted irq imr ipr }
 {
     let standing = standing(irq, imr);
     if standing == 0 {
-        return NONE;
+        return Grant::Nothing;
     }
-    let g = highest(standing, ipr);
-    match g {
-        Grant::Nothing => NONE,
-        Grant::Request(n) => n,
-    }
+    highest(standing, ipr)
 }

@@ -37,7 +37,7 @@ use Rattle.machine.specs.Addresses.{working_at, register_at, indexed_at, even_of
 use Rattle.machine.specs.Stack.{Stacked, spl, sp_of, sp_set, written_from, pushed_internal, pushed_external, pushed, stack_byte, raised, is_internal}
 use Rattle.machine.specs.Start.{Place, placed_all, reset_places, reset_of, new_of, started_with, resting_port, default_of, made_of, is_kind, is_cost}
 use Rattle.machine.specs.Legal.{may_hold, LegalFile, Legal}
-use Rattle.machine.specs.Memory.{data_start, data_byte, list_of}
+use Rattle.machine.specs.Memory.{program_byte, data_start, data_byte, list_of}
 use Rattle.machine.specs.declared.Machine.{Machine}
 use Rattle.machine.specs.declared.Bytes as bytes
 use Rattle.machine.specs.declared.Pins.{Pins}
@@ -509,6 +509,10 @@ unfolding read_pair
 pair_word p m a l lp = omega (arith, read_byte l p (even_of a) lp, read_byte l p (even_of a + 1) lp)
 
 -- of memories that hold bytes
+pub program_byte_lem : (image : List ℕ) (a : ℕ) → ((i : ℕ) → get_or image i 0xFF < 256) → program_byte image a < 256
+unfolding program_byte
+program_byte_lem image a bytes = bytes a
+
 pub data_byte_lem : (kind : ℕ) (mem : List ℕ) (a : ℕ) → ((i : ℕ) → get_or mem i 0xFF < 256) → data_byte kind mem a < 256
 unfolding data_byte
 data_byte_lem kind mem a bytes = by_test (λ v. v < 256) (ltb a (data_start kind)) (λ t. lit< tt) (λ t. bytes a)

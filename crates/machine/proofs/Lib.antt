@@ -1,6 +1,5 @@
 pub mod Choices
 pub mod Elements
-pub mod Program
 pub mod Places
 pub mod Sio
 pub mod Held

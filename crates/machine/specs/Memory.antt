@@ -1,19 +1,21 @@
 -- Program and data memory (01 "Memory and registers"; 004 3.4 and 3.5). "Data and program memory are separate, and port modes don't
 -- hinder either (HOUSE)": nothing here looks at a register. "LDC and LDCI stores are dropped (HOUSE)": nothing stores to the image.
-use Rattle.std.specs.Prelude.{List, [], ◌∷◌, ℕ, eqb, ltb, get_or, set, length}
+use Rattle.std.specs.Prelude.{List, [], ◌∷◌, ℕ, eqb, ltb, get_or, set}
 use Rattle.word.specs.Choose.{pick}
 use Rattle.word.specs.Words.{plus}
 use Rattle.machine.specs.declared.Bytes.{Bytes}
 use Rattle.machine.specs.declared.Bytes.TheVariants.{One, Two, Three}
-use Rattle.machine.specs.declared.memory.ProgramByte.{ProgramByte}
-use Rattle.machine.specs.declared.memory.ProgramByte.TheVariants.{Past, Byte}
+use Rattle.machine.specs.declared.memory.Triple.{Triple}
 use Rattle.machine.specs.declared.Stores.{Stores}
 use Rattle.machine.specs.declared.Stores.TheVariants.{Nothing, At}
 
--- A byte of the program, or that there is none, the address being past the image: "reading a program byte past the image is refusal 11" (02,
--- C-17) to whatever reads it. (`get_or` is the element, or its last argument past the end.)
-unfoldable pub program_byte : List ℕ → ℕ → ProgramByte
-program_byte image a = pick (ltb a (length image)) (Byte (get_or image a 0)) Past
+-- "Program bytes past the image read FF (HOUSE)." (`get_or` is the element, or its last argument past the end.)
+unfoldable pub program_byte : List ℕ → ℕ → ℕ
+program_byte image a = get_or image a 0xFF
+
+-- three bytes from an address on, modulo 65,536, as a fetch reads them
+abbrev pub program_three : List ℕ → ℕ → Triple
+program_three image a = record { first = program_byte image a; second = program_byte image (plus a 1); third = program_byte image (plus a 2) }
 
 -- data addresses under 2,048 (type 1) or 4,096 (type 11) are none
 abbrev pub data_start : ℕ → ℕ

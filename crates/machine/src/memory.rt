@@ -1,31 +1,28 @@
 // Program and data memory.
 ghost use Rattle.std.specs.Prelude.{◌≡◌, ◌≤◌, length};
-ghost use Rattle.machine.specs.Memory.{program_byte, data_start, data_byte, data_stored, list_of, stored_from};
+ghost use Rattle.machine.specs.Memory.{program_byte, program_three, data_start, data_byte, data_stored, list_of, stored_from};
 ghost use Rattle.machine.specs.ForCode.{reach_of};
 
 use crate::{Bytes, Machine};
 
-// A byte of the program, or that there is none: the address is past the image.
+// Three bytes of the program, in address order: as many as an instruction has at most.
 #[derive(Drop)]
-pub enum ProgramByte {
-    Past,
-    Byte(u8),
+pub struct Triple {
+    pub first: u8,
+    pub second: u8,
+    pub third: u8,
 }
 
-// A byte of the program. Every vector and LDC goes by it, and every fetch by it or by one test for three bytes (`reach`).
-pub fn program(image: &[u8], a: u16) -> ProgramByte
+// A byte of the program. Every vector and LDC goes by it, and every fetch by it or by `program_three` below, which reads the same.
+pub fn program(image: &[u8], a: u16) -> u8
     ensures { result ≡ program_byte image.now a }
 {
     let i = a as usize;
-    if i < image.len() {
-        ProgramByte::Byte(image[i])
-    } else {
-        ProgramByte::Past
-    }
+    if i < image.len() { image[i] } else { 0xFF }
 }
 
 // How much of the image addresses reach.
-pub fn reach(image: &[u8]) -> usize
+fn reach(image: &[u8]) -> usize
     ensures value { result ≡ reach_of image.now }
     ensures inside { (result ≤ length image.now) × (result ≤ 65536) }
 {
@@ -33,6 +30,30 @@ pub fn reach(image: &[u8]) -> usize
         image.len()
     } else {
         65536
+    }
+}
+
+// Three bytes of the program from a on, each as `program` has it. Mostly all three are within the image and no address passes 65,535:
+// then one test tells so, where `program` has one for each.
+pub fn program_three(image: &[u8], a: u16) -> Triple
+    ensures { result ≡ program_three image.now a }
+{
+    let i = a as usize;
+    let end = reach(image);
+    if i + 2 < end {
+        return Triple {
+            first: image[i],
+            second: image[i + 1],
+            third: image[i + 2],
+        };
+    }
+    let first = program(image, a);
+    let second = program(image, word::plus(a, 1));
+    let third = program(image, word::plus(a, 2));
+    Triple {
+        first,
+        second,
+        third,
     }
 }
 

@@ -35,10 +35,6 @@ refused_length = 7
 abbrev pub refused_instruction : ℕ
 refused_instruction = 8
 
--- "reading a program byte past the image" (02, C-17)
-abbrev pub refused_past : ℕ
-refused_past = 11
-
 -- ---- lengths and limits
 
 -- "The register file is kept as 256 places"
@@ -62,7 +58,7 @@ budget_most = 1000000
 -- ---- this library's version, as include/z8.h and CHANGELOG.md have it
 
 abbrev pub version_major : ℕ
-version_major = 4
+version_major = 3
 
 abbrev pub version_minor : ℕ
 version_minor = 0

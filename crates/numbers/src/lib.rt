@@ -20,9 +20,6 @@ pub const REFUSED_LENGTH: u8 = 7;
 
 pub const REFUSED_INSTRUCTION: u8 = 8;
 
-// Of 02's requests: C-17.
-pub const REFUSED_PAST: u8 = 11;
-
 // The places of a register file, and the bytes of a saved machine: these places, twelve bytes more, and eight of the serial port.
 pub const FILE_LENGTH: usize = 256;
 
@@ -34,7 +31,7 @@ pub const IMAGE_MOST: usize = 65536;
 pub const DATA_MOST: usize = 65536;
 
 // The library's version, as include/z8.h and CHANGELOG.md have it.
-pub const VERSION_MAJOR: u32 = 4;
+pub const VERSION_MAJOR: u32 = 3;
 
 pub const VERSION_MINOR: u32 = 0;
 

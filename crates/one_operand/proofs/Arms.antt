@@ -1,6 +1,5 @@
 -- Columns 0 and 1: a law for each sort of arm.
 use mathlib.Core.Path.{◌≡◌, refl, ◌∙◌, ap}
-use mathlib.Core.Bool.{false}
 use mathlib.Core.List.{List}
 use Prim.Native.Nat.{ℕ}
 use native.Mathlib.Omega.{arith}
@@ -29,7 +28,7 @@ use Rattle.machine.specs.declared.Stores.TheVariants as stores
 use Rattle.lent.specs.View.{Left, stacked}
 use Rattle.deeds.specs.Modes.{flags_of, one_at, target_of}
 use Rattle.deeds.specs.Results.{unary_of, paired_of}
-use Rattle.deeds.specs.Pages.{deed_of, outcome_of, lacks, unary_deed, paired_deed, clr_deed, da_deed, adjust_deed, pop_deed, push_deed, jp_deed}
+use Rattle.deeds.specs.Pages.{deed_of, outcome_of, unary_deed, paired_deed, clr_deed, da_deed, adjust_deed, pop_deed, push_deed, jp_deed}
 use Rattle.deeds.specs.declared.Code.{Code}
 use Rattle.execute.specs.Doing.{done_of, stored_at, word_stored_at, transferred, popped, jumped}
 use Rattle.execute.specs.ForCode.{Performed, performed, instruction_at}
@@ -45,11 +44,6 @@ adjust_stores : (p : Pins) (n : Machine) (dst : ℕ) (x : Adjusted) → (done_of
 unfolding done_of adjust_deed
 adjust_stores p n dst (By o) = refl
 adjust_stores p n dst NoRow = refl
-
-adjust_loads_none : (dst : ℕ) (x : Adjusted) → lacks (adjust_deed dst x) ≡ false
-unfolding adjust_deed
-adjust_loads_none dst (By o) = refl
-adjust_loads_none dst NoRow = refl
 
 module _ {p : Pins} {n : Machine} {pc : ℕ} {i : Code} {o : Operands} (image mem : List ℕ) (m : At 0 2 p n pc i o) where
   abbrev This : Performed → Type 0
@@ -82,8 +76,7 @@ module _ {p : Pins} {n : Machine} {pc : ℕ} {i : Code} {o : Operands} (image me
   unfolding entry_of opcode_map length_of deed_of da_deed stored_in
   da_arm h =
       let a = one_at p n (one_mode (lower i.op)) i in
-      let x = da_of (read_reg p n a) (flags_of n) in
-      rw dst_is (rw (adjust_loads_none a x, adjust_stores p n a x) at (row_is Da 4 h refl))
+      rw dst_is (rw (adjust_stores p n a (da_of (read_reg p n a) (flags_of n))) at (row_is Da 4 h refl))
 
   pub pop_arm : upper i.op ≡ 5 → This (performed (popped n o.dst (stack_byte p n mem 0)) mem 10)
   unfolding entry_of opcode_map length_of deed_of pop_deed outcome_of done_of stored_in

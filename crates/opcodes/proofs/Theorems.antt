@@ -18,7 +18,7 @@ use Rattle.opcodes.specs.declared.Kind.{Kind}
 use Rattle.opcodes.specs.declared.Decoded.TheVariants as decoded
 use Rattle.opcodes.specs.declared.Encoded.TheVariants as encoded
 use Rattle.opcodes.specs.Map.{entry_of, opcode_map}
-use Rattle.opcodes.specs.ForCode.{cost_of, size_of}
+use Rattle.opcodes.specs.ForCode.{cost_of}
 use Rattle.opcodes.specs.Cycles.{cycles_of, cycle_map}
 use Rattle.opcodes.specs.Instruction.{defined, length_of, operand, decode_of, decoded_as, encode_of, is_instruction}
 
@@ -72,20 +72,15 @@ pub blank_costs_nothing : (op : ℕ) (first : Bool) → op < 256 → defined (en
 unfolding in_range
 blank_costs_nothing op first h d = eqb→eq (cycles_of op first) 0 (rw d at (at (in_range first) 256 (ranges first) op h))
 
--- a number that each kind has, by an opcode's entry: x where the map is blank
-abbrev by_entry : (Kind → ℕ) → ℕ → Entry → ℕ
-by_entry f x Blank = x
-by_entry f x (Of k) = f k
+-- the cycles by an opcode's entry
+abbrev by_entry : Bool → Entry → ℕ
+by_entry first Blank = 0
+by_entry first (Of k) = cost_of k first
 
-entry_cycles : (first : Bool) (op : ℕ) → op < 256 → cycles_of op first ≡ by_entry (λ k. cost_of k first) 0 (entry_of op)
+entry_cycles : (first : Bool) (op : ℕ) → op < 256 → cycles_of op first ≡ by_entry first (entry_of op)
 unfolding entry_of opcode_map cycles_of cycle_map
-entry_cycles true op h = agree (λ x. cycles_of x true) (λ x. by_entry (λ k. cost_of k true) 0 (entry_of x)) 256 refl op h
-entry_cycles false op h = agree (λ x. cycles_of x false) (λ x. by_entry (λ k. cost_of k false) 0 (entry_of x)) 256 refl op h
-
--- (a blank opcode has its column's length too)
-entry_lengths : (op : ℕ) → op < 256 → length_of op ≡ by_entry size_of (length_of op) (entry_of op)
-unfolding entry_of opcode_map length_of
-entry_lengths op h = agree length_of (λ x. by_entry size_of (length_of x) (entry_of x)) 256 refl op h
+entry_cycles true op h = agree (λ x. cycles_of x true) (λ x. by_entry true (entry_of x)) 256 refl op h
+entry_cycles false op h = agree (λ x. cycles_of x false) (λ x. by_entry false (entry_of x)) 256 refl op h
 
 -- nothing is defined past the map's 256 cells
 beyond : (op : ℕ) → 256 ≤ op → entry_of op ≡ Blank
@@ -95,19 +90,12 @@ beyond op h = ap (λ row. get_or row (lower op) Blank) (get_or-eq_default opcode
 blank_or : {k : Kind} → Blank ≡ Of k → ⊥
 blank_or e = subst (λ (x : Entry). T (defined x)) (sym e) tt
 
--- so what is defined is one of the 256
-defined_low : {k : Kind} (op : ℕ) → entry_of op ≡ Of k → op < 256
-defined_low {k} op e = go (dec_lt op 256)
-  where
-    go : Dec (op < 256) → op < 256
-    go (yes h) = h
-    go (no h) = absurd (blank_or (sym (beyond op (omega arith)) ∙ e))
-
 pub cycles_by_kind : {k : Kind} (op : ℕ) (first : Bool) → entry_of op ≡ Of k → cycles_of op first ≡ cost_of k first
-cycles_by_kind op first e = entry_cycles first op (defined_low op e) ∙ ap (by_entry (λ k. cost_of k first) 0) e
-
-pub length_by_kind : {k : Kind} (op : ℕ) → entry_of op ≡ Of k → length_of op ≡ size_of k
-length_by_kind op e = entry_lengths op (defined_low op e) ∙ ap (by_entry size_of (length_of op)) e
+cycles_by_kind {k} op first e = go (dec_lt op 256)
+  where
+    go : Dec (op < 256) → cycles_of op first ≡ cost_of k first
+    go (yes h) = entry_cycles first op h ∙ ap (by_entry first) e
+    go (no h) = absurd (blank_or (sym (beyond op (omega arith)) ∙ e))
 
 -- a byte that is zero where the instruction hasn't it is its own
 own_again : (has : Bool) (b : ℕ) → eqb (pick has (pick has b 0) 0) (pick has b 0) ≡ true

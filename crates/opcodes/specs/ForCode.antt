@@ -62,7 +62,7 @@ abbrev pub jp_cost : Target → Bool → ℕ
 jp_cost target.Direct taken = jump_cost taken
 jp_cost target.Pair taken = 8
 
--- so the cycles of an opcode are those of its kind (proved: `cycles_by_kind`), and so is its length (`length_by_kind`)
+-- so the cycles of an opcode are those of its kind (proved: `cycles_by_kind`)
 abbrev pub cost_of : Kind → Bool → ℕ
 cost_of (kind.Binary b w) first = two_cost w
 cost_of (kind.Test t w) first = two_cost w
@@ -90,56 +90,3 @@ cost_of kind.Rcf first = 6
 cost_of kind.Ret first = 14
 cost_of kind.Scf first = 6
 cost_of kind.Srp first = 6
-
--- the length by the address modes
-abbrev pub one_size : One → ℕ
-one_size one.Work = 1
-one_size one.Reg = 2
-one_size one.Ind = 2
-
-abbrev pub two_size : Two → ℕ
-two_size two.WorkWork = 2
-two_size two.WorkInd = 2
-two_size two.RegReg = 3
-two_size two.RegInd = 3
-two_size two.RegImm = 3
-two_size two.IndImm = 3
-two_size two.WorkImm = 2
-two_size two.WorkReg = 2
-two_size two.RegWork = 2
-two_size two.WorkIndexed = 3
-two_size two.IndexedWork = 3
-two_size two.IndWork = 2
-two_size two.IndReg = 3
-
-abbrev pub target_size : Target → ℕ
-target_size target.Direct = 3
-target_size target.Pair = 2
-
-abbrev pub size_of : Kind → ℕ
-size_of (kind.Binary b w) = two_size w
-size_of (kind.Test t w) = two_size w
-size_of (kind.Unary u w) = one_size w
-size_of (kind.Paired p w) = one_size w
-size_of (kind.Call t) = target_size t
-size_of kind.Ccf = 1
-size_of (kind.Clr w) = one_size w
-size_of (kind.Da w) = one_size w
-size_of kind.Di = 1
-size_of kind.Djnz = 2
-size_of kind.Ei = 1
-size_of kind.Iret = 1
-size_of (kind.Jp t) = target_size t
-size_of kind.Jr = 2
-size_of (kind.Ld w) = two_size w
-size_of (kind.Ldc w) = 2
-size_of (kind.Ldci w) = 2
-size_of (kind.Lde w) = 2
-size_of (kind.Ldei w) = 2
-size_of kind.Nop = 1
-size_of (kind.Pop w) = one_size w
-size_of (kind.Push w) = one_size w
-size_of kind.Rcf = 1
-size_of kind.Ret = 1
-size_of kind.Scf = 1
-size_of kind.Srp = 2

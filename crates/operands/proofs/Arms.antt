@@ -5,7 +5,6 @@ use Prim.Native.Nat.{ℕ, ◌+◌, ◌-◌, ◌*◌, ◌≤◌, ◌<◌}
 use native.Mathlib.Omega.{arith}
 use lib.ListN.{get_or}
 use Rattle.word.specs.Fields.{upper, lower}
-use Rattle.word.specs.Choose.{pick}
 use Rattle.word.specs.Words.{plus}
 use Rattle.word.proofs.Computed.{agree}
 use Rattle.opcodes.specs.Map.{entry_of}
@@ -18,15 +17,14 @@ use Rattle.opcodes.proofs.Cells.{part, in_part}
 use Rattle.opcodes.proofs.Theorems.{cycles_by_kind}
 use Rattle.machine.specs.State.{with_pc}
 use Rattle.machine.specs.Memory.{stored_in}
-use Rattle.numbers.specs.Numbers.{refused_past}
 use Rattle.machine.specs.declared.Machine.{Machine}
 use Rattle.machine.specs.declared.Pins.{Pins}
 use Rattle.deeds.specs.Modes.{one_at}
-use Rattle.deeds.specs.Pages.{deed_of, outcome_of, lacks}
+use Rattle.deeds.specs.Pages.{deed_of, outcome_of}
 use Rattle.deeds.specs.declared.Code.{Code}
 use Rattle.execute.specs.Doing.{done_of}
-use Rattle.execute.specs.Execute.{Execution, refused_of, execute_as, perform_of, next_of}
-use Rattle.execute.specs.ForCode.{Performed, performed, performed_by, column_length, instruction_at}
+use Rattle.execute.specs.Execute.{execute_as, perform_of, next_of}
+use Rattle.execute.specs.ForCode.{Performed, performed, column_length, instruction_at}
 use Rattle.operands.specs.ForCode.{two_in, no_operands, columns, column_at}
 
 -- what the map has at an opcode, and the opcode's length: with both in one, an arm has one thing to compute
@@ -56,13 +54,11 @@ pub at_opcode : (op c : ℕ) (k : Kind) → op ≡ c → Is c k → Is op k
 at_opcode op c k e h = rw e h
 
 module _ (p : Pins) (image mem : List ℕ) (n : Machine) (pc : ℕ) (i : Code) where
-  -- an instruction of kind k, its deed done; or refused, where what it is to load is past the image
+  -- an instruction of kind k, its deed done
   abbrev pub doing : Kind → Performed
   doing k =
       let d = deed_of p image mem n k i in
-      performed_by n mem
-      (pick (lacks d) (refused_of refused_past (with_pc n pc))
-      (record { refusal = 0; cycles = cost_of k (outcome_of n d); stores = (done_of p n d).stores; machine = (done_of p n d).machine }))
+      performed (done_of p n d).machine (stored_in n.kind mem (done_of p n d).stores) (cost_of k (outcome_of n d))
 
   next_is : n.pc ≡ plus pc (length_of i.op) → next_of (with_pc n pc) i ≡ n
   unfolding with_pc

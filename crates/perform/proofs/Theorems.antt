@@ -1,33 +1,34 @@
--- The instruction at the program counter, from what was fetched.
-use Rattle.std.proofs.Common.{◌≡◌, ℕ, true, false, T, List, sym, refl, ap, ◌∙◌, subst}
+-- The instruction at the program counter, and how its refusal shows in its cycles.
+use Rattle.std.proofs.Common.{◌≡◌, ℕ, ◌<◌, Bool, true, false, not, eqb, List, refl}
+use Rattle.word.specs.Choose.{pick}
+use Rattle.word.proofs.Computed.{agree}
+use Rattle.opcodes.specs.Map.{entry_of, opcode_map}
+use Rattle.opcodes.specs.Cycles.{cycles_of, cycle_map}
+use Rattle.opcodes.specs.Instruction.{defined}
+use Rattle.opcodes.specs.declared.Entry.{Entry}
+use Rattle.opcodes.specs.declared.Entry.TheVariants.{Blank, Of}
 use Rattle.machine.specs.State.{with_pc}
-use Rattle.machine.specs.Memory.{stored_in}
 use Rattle.machine.specs.declared.Machine.{Machine}
 use Rattle.machine.specs.declared.Pins.{Pins}
-use Rattle.execute.specs.Execute.{bytes_of, fetch_of, execute_fetched, execute_of}
-use Rattle.execute.specs.ForCode.{first_bytes, is_whole, code_at, instruction_at, performed, performed_by}
-use Rattle.execute.specs.declared.Fetched.{Fetched}
-use Rattle.execute.specs.declared.Fetched.TheVariants as fetched
-use Rattle.execute.proofs.Own.{own_executed}
-use Rattle.execute.proofs.Reading.{whole_fetched}
+use Rattle.deeds.specs.Pages.{deed_of, outcome_of}
+use Rattle.deeds.specs.declared.Code.{Code}
+use Rattle.execute.specs.Execute.{code_at, next_of, perform_of, execute_as, execute_of}
+use Rattle.execute.specs.ForCode.{instruction_at, performed_by}
 
-module _ (p : Pins) (image mem : List ℕ) (m : Machine) where
-  as_fetched : (f : Fetched) → f ≡ fetch_of image m.pc → execute_fetched p image mem m f ≡ execute_of p image mem m
-  unfolding execute_of
-  as_fetched f e = ap (execute_fetched p image mem m) e
+pub here_is : (p : Pins) (image mem : List ℕ) (m : Machine) → instruction_at p image mem m m.pc (code_at image m.pc) ≡ performed_by m mem (execute_of p image mem m)
+unfolding instruction_at execute_of with_pc
+here_is p image mem m = refl
 
-  -- all its bytes are there; others may have come along
-  pub here_is : is_whole (fetch_of image m.pc) ≡ true → instruction_at p image mem m m.pc (code_at image m.pc) ≡ performed_by m mem (execute_of p image mem m)
-  unfolding instruction_at execute_fetched with_pc
-  here_is w =
-      let i = code_at image m.pc in
-      ap (performed_by m mem) (sym (own_executed p image mem m i) ∙ as_fetched (fetched.Bytes (first_bytes (bytes_of i.op) i)) (sym (whole_fetched image m.pc w)))
+-- the map has cycles exactly where it has an instruction
+some_cycles : (first : Bool) (op : ℕ) → op < 256 → eqb (cycles_of op first) 0 ≡ not (defined (entry_of op))
+unfolding entry_of opcode_map cycles_of cycle_map
+some_cycles true op h = agree (λ x. eqb (cycles_of x true) 0) (λ x. not (defined (entry_of x))) 256 refl op h
+some_cycles false op h = agree (λ x. eqb (cycles_of x false) 0) (λ x. not (defined (entry_of x))) 256 refl op h
 
-  -- one of them is past the image
-  pub here_past : is_whole (fetch_of image m.pc) ≡ false → performed m mem 0 ≡ performed_by m mem (execute_of p image mem m)
-  unfolding execute_fetched stored_in
-  here_past w = go (fetch_of image m.pc) refl w
-    where
-      go : (f : Fetched) → fetch_of image m.pc ≡ f → is_whole f ≡ false → performed m mem 0 ≡ performed_by m mem (execute_of p image mem m)
-      go fetched.Past e t = ap (performed_by m mem) (as_fetched fetched.Past (sym e))
-      go (fetched.Bytes i) e t = absurd (subst T t tt)
+-- so 0 cycles are refusal 5
+pub refusal_by_cycles : (p : Pins) (image mem : List ℕ) (m : Machine) (e : Entry) (i : Code) → e ≡ entry_of i.op → i.op < 256
+    → (execute_as p image mem m e i).refusal ≡ pick (eqb (execute_as p image mem m e i).cycles 0) 5 0
+unfolding execute_as perform_of
+refusal_by_cycles p image mem m Blank i e h = refl
+refusal_by_cycles p image mem m (Of k) i e h =
+    rw (some_cycles (outcome_of (next_of m i) (deed_of p image mem (next_of m i) k i)) i.op h, ← e)

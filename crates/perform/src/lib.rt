@@ -65,10 +65,6 @@ pub fn execute_here(
     ensures { performed (machine_in regs.new rest.new) mem.new result ≡ performed_by (machine_in regs.old rest.old) mem.old (execute_of pins image.now mem.old (machine_in regs.old rest.old)) }
 {
     let pc = lent::pc(rest);
-    let whole = execute::is_whole(image, pc);
-    if !whole {
-        return execute::doing::REFUSED;
-    }
     let i = execute::fetch(image, pc);
     perform(regs, rest, pins, mem, image, pc, i)
 }

@@ -34,15 +34,15 @@ use Rattle.machine.specs.Start.{reset_places, new_of, default_of}
 use Rattle.machine.specs.declared.Machine.{Machine}
 use Rattle.machine.proofs.Lens.{span_is}
 use Rattle.machine.proofs.Legal.{resting_legal}
-use Rattle.deeds.specs.Modes.{one_at, operands_of, target_of}
+use Rattle.deeds.specs.Modes.{one_at, operands_of}
 use Rattle.deeds.specs.Results.{binary_of, unary_of, paired_of}
-use Rattle.deeds.specs.Pages.{binary_deed, unary_deed, ld_deed, adjust_deed, da_deed, paired_deed, djnz_deed, jp_deed, jr_deed, deed_of, outcome_of}
+use Rattle.deeds.specs.Pages.{binary_deed, unary_deed, ld_deed, adjust_deed, da_deed, paired_deed, djnz_deed, jr_deed, deed_of, outcome_of}
 use Rattle.execute.specs.Doing.{flagged, stored_at, word_stored_at, transferred, jumped, looped, interrupts_to, interrupts_enabled, done_of}
-use Rattle.execute.specs.Execute.{bytes_of, operand_at, fetch_of, perform_of, execute_as, execute_fetched, execute_of}
+use Rattle.execute.specs.Execute.{code_at, perform_of, execute_as, execute_of}
 use Rattle.interrupts.specs.Edges.{fell, latched_by, started_by, moved_by_edges, compared_of}
 use Rattle.interrupts.specs.Grants.{group_a, group_b, group_c, ordered, priorities, first_standing, granted, grant_of}
 use Rattle.interrupts.specs.Entry.{cleared, vector_of, acknowledged, entered_of}
-use Rattle.step.specs.Step.{entering, granted_or, act_on, action_of, clocked_on, step_of}
+use Rattle.step.specs.Step.{granted_or, act_on, action_of, clocked_on, step_of}
 use Rattle.proved.specs.Examples.{all, examples, fresh_load, ends_in}
 
 -- Cycles of a machine are cycles of what they move, and these are computed one by one.
@@ -72,10 +72,10 @@ unfolding examples
     held_in placed_in placed with_pc with_last3 reset_places new_of default_of read_reg write_reg write_irq working_at register_at read_pair write_pair
     program_byte pushed pushed_internal
     control_with control_of moving_of enabling counts_at with_released with_port moved_to write_tmr seen shown cycle_of span_of
-    one_at operands_of target_of binary_of unary_of paired_of binary_deed unary_deed ld_deed adjust_deed da_deed paired_deed djnz_deed jp_deed jr_deed deed_of outcome_of
-    flagged stored_at word_stored_at transferred jumped looped interrupts_to interrupts_enabled done_of bytes_of operand_at fetch_of perform_of execute_as execute_fetched execute_of
+    one_at operands_of binary_of unary_of paired_of binary_deed unary_deed ld_deed adjust_deed da_deed paired_deed djnz_deed jr_deed deed_of outcome_of
+    flagged stored_at word_stored_at transferred jumped looped interrupts_to interrupts_enabled done_of code_at perform_of execute_as execute_of
     fell latched_if latched_by port_mode started_by moved_by_edges compared_of group_a group_b group_c ordered priorities first_standing granted grant_of
-    cleared vector_of acknowledged entered_of entering granted_or act_on action_of clocked_on step_of
+    cleared vector_of acknowledged entered_of granted_or act_on action_of clocked_on step_of
 examples_hold =
     rw (
       ends_are 0 0x0D 0x02 23,

@@ -1,4 +1,4 @@
--- 01's proved examples, as 02 corrects them, and some of 02, C-13 and C-17, one list: each is a test on the definitions, from the bytes of an
+-- 01's proved examples, as 02 corrects them, and two of 02, C-13, one list: each is a test on the definitions, from the bytes of an
 -- instruction, a step or a span of a machine to what is left.
 use Rattle.std.specs.Prelude.{ℕ, Bool, true, false, ◌&&◌, List, [], ◌∷◌, ◌++◌, eqb, replicate}
 use Rattle.machine.specs.Names.{TMR, T0, PRE0, IPR, IRQ, IMR, FLAGS}
@@ -93,11 +93,6 @@ examples =
     -- 02, C-13: a store to FA before EI is dropped, and after it stays: LD %FA,#%3F
     ∷ eqb (held (executed (0xE6 ∷ 0xFA ∷ 0x3F ∷ []) (machine_at 0x0000 0)).machine IRQ) 0x00
     ∷ eqb (held (executed (0x9F ∷ 0xE6 ∷ 0xFA ∷ 0x3F ∷ []) released).machine IRQ) 0x3F
-    -- 02, C-17: an opcode past the image, and one that lacks an operand byte; an undefined one is 5 at the image's end too, and a jump past it is done
-    ∷ eqb (executed [] (machine_at 0x0000 0)).refusal 11
-    ∷ eqb (executed (0xE6 ∷ 0x05 ∷ []) (machine_at 0x0000 0)).refusal 11
-    ∷ eqb (executed (0x84 ∷ []) (machine_at 0x0000 0)).refusal 5
-    ∷ eqb (executed (0x8D ∷ 0x12 ∷ 0x34 ∷ []) (machine_at 0x0000 0)).machine.pc 0x1234
     -- P 3, N 2, fresh load, divider 0: 23 cycles no end, 24 one, 48 two
     ∷ eqb (ends_in 0 0x0D 0x02 23) 0
     ∷ eqb (ends_in 0 0x0D 0x02 24) 1

@@ -21,15 +21,13 @@ use Rattle.machine.specs.State.{with_pc}
 use Rattle.machine.specs.Registers.{read_reg, write_reg}
 use Rattle.machine.specs.Addresses.{register_at, indirect_at, working_indirect_at, indexed_at, read_pair}
 use Rattle.machine.specs.Memory.{stored_in, data_byte, program_byte}
-use Rattle.machine.specs.declared.memory.ProgramByte.{ProgramByte}
-use Rattle.machine.specs.declared.memory.ProgramByte.TheVariants.{Past, Byte}
 use Rattle.machine.specs.declared.Machine.{Machine}
 use Rattle.machine.specs.declared.Pins.{Pins}
 use Rattle.machine.specs.declared.Bytes.TheVariants as bytes
 use Rattle.machine.specs.declared.Stores.TheVariants as stores
 use Rattle.lent.specs.View.{Left, stacked}
 use Rattle.deeds.specs.Modes.{upper_at, lower_at, operands_of, from_register, target_of}
-use Rattle.deeds.specs.Pages.{deed_of, outcome_of, ld_deed, lde_deed, ldei_deed, ldc_deed, ldci_deed, call_deed, data_move, program_move, lacks}
+use Rattle.deeds.specs.Pages.{deed_of, outcome_of, ld_deed, lde_deed, ldei_deed, ldc_deed, ldci_deed, call_deed, data_move, program_move}
 use Rattle.deeds.specs.declared.Code.{Code}
 use Rattle.execute.specs.Doing.{done_of, transferred, block_moved, counted_up, pair_counted_up, called}
 use Rattle.execute.specs.ForCode.{Performed, performed, instruction_at}
@@ -74,25 +72,13 @@ module _ {p : Pins} (image mem : List ℕ) {n : Machine} {pc : ℕ} {i : Code} {
   unfolding entry_of opcode_map length_of deed_of outcome_of done_of ldei_deed data_move block_moved transferred working_indirect_at
   ldei_out h = rw (m.pointed, m.pair, m.register) (opcode_is 0x93 (Ldei Out) h refl)
 
-  -- the byte that the pair points to is there, or is past the image
-  there : (b : ProgramByte) → program_byte image a ≡ b → program_byte image (read_pair p n (lower_at n i.first)) ≡ b
-  there b e = rw (m.pointed, m.pair) at e
-
-  pub ldc_in : (v : ℕ) → program_byte image a ≡ Byte v → i.op ≡ 0xC2 → This (performed (write_reg n r v) mem 12)
+  pub ldc_in : i.op ≡ 0xC2 → This (performed (write_reg n r (program_byte image a)) mem 12)
   unfolding entry_of opcode_map length_of deed_of outcome_of done_of ldc_deed program_move transferred stored_in
-  ldc_in v e h = rw m.register (rw (there (Byte v) e) at (opcode_is 0xC2 (Ldc In) h refl))
+  ldc_in h = rw (m.pointed, m.pair, m.register) (opcode_is 0xC2 (Ldc In) h refl)
 
-  pub ldci_in : (v : ℕ) → program_byte image a ≡ Byte v → i.op ≡ 0xC3 → This (performed (counted (write_reg n (read_reg p n r) v)) mem 18)
+  pub ldci_in : i.op ≡ 0xC3 → This (performed (counted (write_reg n (read_reg p n r) (program_byte image a))) mem 18)
   unfolding entry_of opcode_map length_of deed_of outcome_of done_of ldci_deed program_move block_moved transferred stored_in working_indirect_at
-  ldci_in v e h = rw (m.pair, m.register) (rw (there (Byte v) e) at (opcode_is 0xC3 (Ldci In) h refl))
-
-  pub ldc_past : program_byte image a ≡ Past → i.op ≡ 0xC2 → This (performed (with_pc n pc) mem 0)
-  unfolding entry_of opcode_map length_of deed_of ldc_deed program_move stored_in
-  ldc_past e h = rw (there Past e) at (opcode_is 0xC2 (Ldc In) h refl)
-
-  pub ldci_past : program_byte image a ≡ Past → i.op ≡ 0xC3 → This (performed (with_pc n pc) mem 0)
-  unfolding entry_of opcode_map length_of deed_of ldci_deed program_move stored_in
-  ldci_past e h = rw (there Past e) at (opcode_is 0xC3 (Ldci In) h refl)
+  ldci_in h = rw (m.pointed, m.pair, m.register) (opcode_is 0xC3 (Ldci In) h refl)
 
   pub ld_from_index : i.op ≡ 0xC7 → This (performed (write_reg n r (read_reg p n (indexed_at p n i.second (lower i.first)))) mem 10)
   unfolding entry_of opcode_map length_of deed_of outcome_of done_of ld_deed operands_of from_register transferred stored_in

@@ -8,7 +8,6 @@ ghost use Rattle.singles.specs.ForCode.{Single};
 
 use deeds::Code;
 use lent::Rest;
-use machine::memory::ProgramByte;
 use machine::{File, Pins};
 
 // "LDCI and LDEI store, then add one" to the register and to the pair.
@@ -60,25 +59,15 @@ pub fn singles(
             18
         }
         0xC2 => {
-            let there = machine::memory::program(image, pointed);
-            match there {
-                ProgramByte::Past => execute::doing::refused(regs, rest, pc),
-                ProgramByte::Byte(v) => {
-                    registers::write(regs, rest, r, v);
-                    12
-                }
-            }
+            let v = machine::memory::program(image, pointed);
+            registers::write(regs, rest, r, v);
+            12
         }
         0xC3 => {
-            let there = machine::memory::program(image, pointed);
-            match there {
-                ProgramByte::Past => execute::doing::refused(regs, rest, pc),
-                ProgramByte::Byte(v) => {
-                    let to = registers::read(regs, rest, pins, r);
-                    block(regs, rest, pins, to, v, r, x);
-                    18
-                }
-            }
+            let to = registers::read(regs, rest, pins, r);
+            let v = machine::memory::program(image, pointed);
+            block(regs, rest, pins, to, v, r, x);
+            18
         }
         0xC7 => {
             let a = registers::addresses::indexed(regs, rest, pins, i.second, i.first % 16);

@@ -1,45 +1,40 @@
--- What is done, by what is granted and by what is read; and what it comes to where the pins given are the last already.
-use mathlib.Core.Path.{◌≡◌, refl, ap, sym, ◌∙◌}
+-- What is done, by what is granted and by the map's entry; and what it comes to where the pins given are the last already.
+use mathlib.Core.Path.{◌≡◌, refl, ap, sym, ◌∙◌, subst}
 use mathlib.Core.Bool.{Bool, true, false}
 use mathlib.Core.List.{List, [], ◌∷◌}
 use Prim.Native.Nat.{ℕ, zero, suc, ◌<◌}
 use native.Mathlib.Nat.{zero-add}
 use native.Mathlib.Omega.{arith}
-use borrow.Author.Tests.{eqb-true, eqb-false}
-use lib.Dec.{eqb}
+use borrow.Author.Tests.{eqb-true}
+use lib.Dec.{T, eqb}
 use lib.ListN.{get_or}
-use Rattle.numbers.specs.Numbers.{refused_opcode, refused_past}
 use Rattle.word.proofs.Computed.{by_test}
+use Rattle.opcodes.specs.Map.{entry_of}
+use Rattle.opcodes.specs.declared.Entry.{Entry}
+use Rattle.opcodes.specs.declared.Entry.TheVariants as entry
+use Rattle.opcodes.specs.declared.Kind.{Kind}
+use Rattle.machine.specs.State.{held}
 use Rattle.machine.specs.Memory.{program_byte, stored_in}
 use Rattle.machine.specs.Clock.{Ran, span_of}
 use Rattle.machine.specs.Legal.{Legal}
 use Rattle.machine.specs.declared.Machine.{Machine}
 use Rattle.machine.specs.declared.Pins.{Pins}
-use Rattle.machine.proofs.Program.{none_past}
 use Rattle.machine.proofs.Whole.{span_last3}
 use Rattle.lent.specs.View.{Left, stacked}
 use Rattle.deeds.proofs.Fits.{AllRead}
-use Rattle.execute.specs.Execute.{Execution, refused_of}
+use Rattle.execute.specs.Execute.{Execution, refused_of, code_at, perform_of, execute_as, execute_of}
 use Rattle.execute.specs.ForCode.{Performed, performed, performed_by}
-use Rattle.execute.proofs.Reading.{PastByte, Undefined, fetched_opcode}
-use Rattle.execute.proofs.Reading.PastByte.{opcode, first_operand, second_operand, load}
-use Rattle.execute.proofs.Reading.Undefined.{blank}
-use Rattle.execute.proofs.Leaves.{execute_leaves_last3}
+use Rattle.execute.proofs.Theorems.{undefined_refused, defined_done}
+use Rattle.execute.proofs.Leaves.{execute_leaves}
 use Rattle.interrupts.specs.Edges.{compared_of}
-use Rattle.interrupts.specs.Grants.{grant_of}
-use Rattle.interrupts.specs.Entry.{vector_of, entered_of}
-use Rattle.interrupts.specs.declared.entry.Routine.{Routine}
-use Rattle.interrupts.specs.declared.entry.Routine.TheVariants as routine
+use Rattle.interrupts.specs.Grants.{granted, grant_of}
+use Rattle.interrupts.specs.Entry.{entered_of}
 use Rattle.interrupts.specs.declared.grants.Grant.{Grant}
 use Rattle.interrupts.specs.declared.grants.Grant.TheVariants as grant
-use Rattle.interrupts.proofs.Steady.{compared_again, compared_last}
+use Rattle.interrupts.proofs.Steady.{compared_leaves, compared_again, compared_last}
 use Rattle.interrupts.proofs.Legal.{entered_leaves}
-use Rattle.step.specs.Step.{Progress, Action, entering, granted_or, act_on, action_of, clocked_on, step_of}
-use Rattle.step.specs.Run.{nothing_done}
-use Rattle.step.specs.ForCode.{why_at, why_of}
-use Rattle.step.proofs.Good.{ReadsPast, Did, done_on, did, granted_costs, unclocked}
-use Rattle.step.proofs.Good.ReadsPast.{instruction, vector}
-use Rattle.step.proofs.Good.Did.{past, undefined, taken}
+use Rattle.step.specs.Step.{Progress, Action, granted_or, act_on, action_of, clocked_on, step_of}
+use Rattle.step.proofs.Good.{granted_costs, unclocked}
 
 -- the bytes of a slice, read past its end too
 pub read_any : (l : List ℕ) → ((i : ℕ) → get_or l i 0 < 256) → AllRead l
@@ -47,94 +42,114 @@ read_any [] f i = omega arith
 read_any (x ∷ xs) f zero = f zero
 read_any (x ∷ xs) f (suc i) = read_any xs (λ j. f (suc j)) i
 
--- what is left when a request was entered, and where its vector is past the image
-pub entered_left : (p : Pins) (image mem : List ℕ) (m : Machine) (n to : ℕ) (l : Left) → vector_of image n ≡ routine.At to → l ≡ stacked m.kind mem (entered_of to m n)
+-- an instruction at a known program counter
+executed_at : (p : Pins) (image mem : List ℕ) (m : Machine) (pc : ℕ) → m.pc ≡ pc
+    → execute_of p image mem m ≡ execute_as p image mem m (entry_of (code_at image pc).op) (code_at image pc)
+unfolding execute_of
+executed_at p image mem m pc e = rw (← e)
+
+module _ (p : Pins) (image mem : List ℕ) (m : Machine) (l : Legal m) where
+  at_same : execute_of p image mem (compared_of m p.port3).machine
+      ≡ execute_as p image mem (compared_of m p.port3).machine (entry_of (code_at image m.pc).op) (code_at image m.pc)
+  at_same =
+      executed_at p image mem (compared_of m p.port3).machine m.pc
+      (compared_leaves m p.port3 l.file.long (l.file.bytes 0xF1)).pc_left
+
+  pub blank_refused : grant_of (compared_of m p.port3).machine ≡ grant.Nothing → entry_of (code_at image m.pc).op ≡ entry.Blank
+      → action_of p image mem m ≡ record { done = refused_of m; ends1 = 0 }
+  unfolding action_of granted_or act_on execute_as
+  blank_refused g e = rw (g, at_same, e)
+
+  pub kind_taken : {k : Kind} → grant_of (compared_of m p.port3).machine ≡ grant.Nothing → entry_of (code_at image m.pc).op ≡ entry.Of k
+      → (action_of p image mem m).done.refusal ≡ 0
+  unfolding action_of granted_or act_on execute_as perform_of
+  kind_taken g e = rw (g, at_same, e)
+
+  pub request_taken : {n : ℕ} → grant_of (compared_of m p.port3).machine ≡ grant.Request n → (action_of p image mem m).done.refusal ≡ 0
+  unfolding action_of granted_or act_on
+  request_taken g = rw g
+
+-- what is granted is told by IMR and IPR as they stand
+pub granted_is : (p : Pins) (m : Machine) → Legal m
+    → granted (held (compared_of m p.port3).machine 0xFA) (held m 0xFB) (held m 0xF9) ≡ grant_of (compared_of m p.port3).machine
+unfolding grant_of
+granted_is p m l =
+    let left = compared_leaves m p.port3 l.file.long (l.file.bytes 0xF1) in
+    rw (left.place_left 0xFB (omega arith) (omega arith), left.place_left 0xF9 (omega arith) (omega arith))
+
+-- what is left when a request was entered
+pub entered_left : (p : Pins) (image mem : List ℕ) (m : Machine) (n : ℕ) (l : Left) → l ≡ stacked m.kind mem (entered_of image m n)
     → performed l.machine l.memory m.cost ≡ performed_by m mem (granted_or p image mem m (grant.Request n))
-unfolding granted_or entering
-entered_left p image mem m n to l v e = rw (e, v)
-
-pub not_entered : (p : Pins) (image mem : List ℕ) (m : Machine) (n : ℕ) → vector_of image n ≡ routine.Past
-    → performed m mem 0 ≡ performed_by m mem (granted_or p image mem m (grant.Request n))
-unfolding granted_or entering stored_in
-not_entered p image mem m n v = rw v
-
--- why it is refused, told by the grant and the opcode alone
-why_instruction : (p : Pins) (image : List ℕ) (m : Machine) → PastByte p image m → why_at (program_byte image m.pc) ≡ refused_past
-why_instruction p image m (opcode far) = rw (none_past image m.pc far)
-why_instruction p image m (first_operand op k w e h far) = rw (w, e)
-why_instruction p image m (second_operand op k w e h far) = rw (w, e)
-why_instruction p image m (load i k f e l far) = rw (fetched_opcode image m.pc i f, e)
-
-why_past : (p : Pins) (image : List ℕ) (m : Machine) → ReadsPast p image m → why_of image m ≡ refused_past
-unfolding why_of
-why_past p image m (instruction g far) = rw g (why_instruction p image m far)
-why_past p image m (vector n g far) = rw g
-
-why_undefined : (image : List ℕ) (m : Machine) → grant_of m ≡ grant.Nothing → Undefined image m → why_of image m ≡ refused_opcode
-unfolding why_of
-why_undefined image m g (blank op w e) = rw (g, w, e)
-
--- so where it is refused, it is nothing at all, and that is its number
-pub refused_why : {p : Pins} {image : List ℕ} {m : Machine} {x : Execution} → Did p image m x → (x.refusal ≡ 0 → ⊥) → x ≡ refused_of (why_of image m) m
-refused_why {p} {image} {m} (past far e) some = e ∙ ap (λ n. refused_of n m) (sym (why_past p image m far))
-refused_why {p} {image} {m} (undefined g none e) some = e ∙ ap (λ n. refused_of n m) (sym (why_undefined image m g none))
-refused_why (taken d low high) some = absurd (some d)
-
-pub refused_is : {p : Pins} {image : List ℕ} {m : Machine} {x : Execution} → Did p image m x → (x.refusal ≡ 0 → ⊥) → refused_of x.refusal m ≡ x
-refused_is {m = m} d some = let e = refused_why d some in ap (λ n. refused_of n m) (ap (λ (y : Execution). y.refusal) e) ∙ sym e
+unfolding granted_or
+entered_left p image mem m n l e = rw e
 
 -- ---- on pins that are the last already
-module _ (p : Pins) (image mem : List ℕ) (m : Machine) (l : Legal m) (li : AllRead image) (e : m.last3 ≡ p.port3) where
-  again : compared_of m p.port3 ≡ record { machine = m; ends1 = 0 }
-  again = compared_again m p.port3 (l.file.bytes 0xF1) e
+module _ (p : Pins) (image mem : List ℕ) (m : Machine) where
+  -- what is done
+  abbrev pub done_on : Execution
+  done_on = granted_or p image mem m (grant_of m)
 
-  abbrev x : Execution
-  x = done_on p image mem m
+  executed_refused : eqb (execute_of p image mem m).refusal 0 ≡ false → refused_of m ≡ execute_of p image mem m
+  executed_refused t = go (entry_of (program_byte image m.pc)) refl
+    where
+      go : (e : Entry) → entry_of (program_byte image m.pc) ≡ e → refused_of m ≡ execute_of p image mem m
+      go entry.Blank e = sym (undefined_refused p image mem m e)
+      go (entry.Of k) e = let d : eqb (execute_of p image mem m).refusal 0 ≡ true = rw (defined_done p image mem m e) in absurd (subst T (sym d ∙ t) tt)
 
-  pub action_is : action_of p image mem m ≡ record { done = done_on p image mem m; ends1 = 0 }
-  unfolding action_of act_on
-  action_is =
-      rw again
-      (by_test (λ (a : Action). ◌≡◌ {A = Action} a (record { done = x; ends1 = 0 })) (eqb x.refusal 0)
-      (λ t. refl)
-      (λ t. ap (λ (y : Execution). record { done = y; ends1 = 0 }) (refused_is (did p image mem m l li) (eqb-false x.refusal 0 t))))
+  -- where it is refused, it is nothing at all
+  pub refused_is : (g : Grant) → eqb (granted_or p image mem m g).refusal 0 ≡ false → refused_of m ≡ granted_or p image mem m g
+  unfolding granted_or
+  refused_is grant.Nothing t = executed_refused t
+  refused_is (grant.Request n) t = absurd (subst T t tt)
 
-  -- a step, as the code has it: y is what was left of it before the clock, r the machine after it
-  module _ (y : Performed) (i : y ≡ performed_by m mem (done_on p image mem m)) where
-    clocked : step_of p image mem m ≡ clocked_on m mem (record { done = x; ends1 = 0 })
-    unfolding step_of
-    clocked = ap (clocked_on m mem) action_is
+  module _ (l : Legal m) (e : m.last3 ≡ p.port3) where
+    again : compared_of m p.port3 ≡ record { machine = m; ends1 = 0 }
+    again = compared_again m p.port3 (l.file.bytes 0xF1) e
 
-    same_cycles : y.cycles ≡ x.cycles
-    same_cycles = ap (λ (z : Performed). z.cycles) i
+    pub action_is : action_of p image mem m ≡ record { done = done_on; ends1 = 0 }
+    unfolding action_of act_on
+    action_is =
+        rw again
+        (by_test (λ (a : Action). ◌≡◌ {A = Action} a (record { done = done_on; ends1 = 0 })) (eqb done_on.refusal 0)
+        (λ t. refl)
+        (λ t. ap (λ (x : Execution). record { done = x; ends1 = 0 }) (refused_is (grant_of m) t)))
 
-    -- it has cycles exactly where it isn't refused
-    no_cycles : y.cycles ≡ 0 → x.refusal ≡ 0 → ⊥
-    no_cycles z d = let low = (granted_costs (did p image mem m l li) d).0 in omega (arith, low, same_cycles, z)
+    -- a step, as the code has it: x is what was left of it before the clock, r the machine after it
+    module _ (li : AllRead image) (x : Performed) (i : x ≡ performed_by m mem done_on) where
+      clocked : step_of p image mem m ≡ clocked_on m mem (record { done = done_on; ends1 = 0 })
+      unfolding step_of
+      clocked = ap (clocked_on m mem) action_is
 
-    some_cycles : (y.cycles ≡ 0 → ⊥) → x.refusal ≡ 0
-    some_cycles n = go (eqb x.refusal 0) refl
-      where
-        go : (b : Bool) → eqb x.refusal 0 ≡ b → x.refusal ≡ 0
-        go true t = eqb-true x.refusal 0 t
-        go false t = absurd (n (same_cycles ∙ ap (λ (z : Execution). z.cycles) (refused_why (did p image mem m l li) (eqb-false x.refusal 0 t))))
+      -- it has cycles exactly where it isn't refused
+      no_cycles : x.cycles ≡ 0 → eqb done_on.refusal 0 ≡ false
+      no_cycles z = go (eqb done_on.refusal 0) refl
+        where
+          go : (b : Bool) → eqb done_on.refusal 0 ≡ b → b ≡ false
+          go false t = refl
+          go true t =
+              let low = (granted_costs p image mem m (grant_of m) l li (eqb-true done_on.refusal 0 t)).0 in
+              let none : done_on.cycles ≡ 0 = sym (ap (λ (y : Performed). y.cycles) i) ∙ z in
+              absurd (omega (arith, low, none))
 
-    pub step_refused : (why : ℕ) → y.cycles ≡ 0 → why ≡ why_of image y.machine
-        → ◌≡◌ {A = Progress} (record { refusal = why; cycles = 0; ends0 = 0; ends1 = 0; machine = y.machine; memory = y.memory }) (step_of p image mem m)
-    unfolding stored_in
-    step_refused why z w =
-        let n = why_of image m in
-        let nothing : x ≡ refused_of n m = refused_why (did p image mem m l li) (no_cycles z) in
-        let left : y ≡ performed m mem 0 = i ∙ ap (performed_by m mem) nothing in
-        let number : why ≡ n = w ∙ ap (λ (a : Performed). why_of image a.machine) left in
-        ap (λ (a : Performed). record { refusal = why; cycles = 0; ends0 = 0; ends1 = 0; machine = a.machine; memory = a.memory }) left
-        ∙ ap (λ k. nothing_done k m mem) number
-        ∙ sym (clocked ∙ ap (λ (a : Execution). clocked_on m mem (record { done = a; ends1 = 0 })) nothing ∙ unclocked n m mem)
+      some_cycles : (x.cycles ≡ 0 → ⊥) → done_on.refusal ≡ 0
+      some_cycles n = go (eqb done_on.refusal 0) refl
+        where
+          go : (b : Bool) → eqb done_on.refusal 0 ≡ b → done_on.refusal ≡ 0
+          go true t = eqb-true done_on.refusal 0 t
+          go false t = absurd (n (ap (λ (y : Performed). y.cycles) i ∙ sym (ap (λ (y : Execution). y.cycles) (refused_is (grant_of m) t))))
 
-    pub step_taken : (r : Ran) → (y.cycles ≡ 0 → ⊥) → r ≡ span_of y.cycles y.machine
-        → ◌≡◌ {A = Progress} (record { refusal = 0; cycles = y.cycles; ends0 = r.ends0; ends1 = r.ends1; machine = r.machine; memory = y.memory }) (step_of p image mem m)
-    unfolding clocked_on
-    step_taken r n s = rw (clocked, s, i, zero-add (span_of x.cycles x.machine).ends1, some_cycles n)
+      pub step_refused : x.cycles ≡ 0
+          → ◌≡◌ {A = Progress} (record { refusal = 5; cycles = 0; ends0 = 0; ends1 = 0; machine = x.machine; memory = x.memory }) (step_of p image mem m)
+      unfolding stored_in
+      step_refused z =
+          let same : refused_of m ≡ done_on = refused_is (grant_of m) (no_cycles z) in
+          ap (λ (y : Performed). record { refusal = 5; cycles = 0; ends0 = 0; ends1 = 0; machine = y.machine; memory = y.memory }) (i ∙ ap (performed_by m mem) (sym same))
+          ∙ sym (clocked ∙ ap (λ (y : Execution). clocked_on m mem (record { done = y; ends1 = 0 })) (sym same) ∙ unclocked m mem)
+
+      pub step_taken : (r : Ran) → (x.cycles ≡ 0 → ⊥) → r ≡ span_of x.cycles x.machine
+          → ◌≡◌ {A = Progress} (record { refusal = 0; cycles = x.cycles; ends0 = r.ends0; ends1 = r.ends1; machine = r.machine; memory = x.memory }) (step_of p image mem m)
+      unfolding clocked_on
+      step_taken r n s = rw (clocked, s, i, zero-add (span_of done_on.cycles done_on.machine).ends1, some_cycles n)
 
 -- ---- the last pins
 -- what is done on compared pins, where it is not refused
@@ -146,39 +161,14 @@ action_taken p image mem m d =
     let x = done_on p image mem c.machine in
     by_test (λ (a : Action). a.done.refusal ≡ 0 → ◌≡◌ {A = Action} a (record { done = x; ends1 = c.ends1 })) (eqb x.refusal 0)
     (λ t z. refl)
-    (λ t z. absurd (eqb-false x.refusal 0 t z))
+    (λ t z. absurd (omega (arith, z)))
     d
 
--- whatever it comes to, a step's number is that of what is done on compared pins
-pub step_refusal : (p : Pins) (image mem : List ℕ) (m : Machine) → (step_of p image mem m).refusal ≡ (done_on p image mem (compared_of m p.port3).machine).refusal
-unfolding step_of clocked_on action_of act_on
-step_refusal p image mem m =
-    let x = done_on p image mem (compared_of m p.port3).machine in
-    by_test (λ (a : Action). a.done.refusal ≡ x.refusal) (eqb x.refusal 0) (λ t. refl) (λ t. refl)
-
--- and where it is refused, nothing is changed
-pub step_nothing : (p : Pins) (image mem : List ℕ) (m : Machine) (n : ℕ) → (n ≡ 0 → ⊥) → (done_on p image mem (compared_of m p.port3).machine).refusal ≡ n
-    → step_of p image mem m ≡ nothing_done n m mem
-unfolding step_of action_of act_on
-step_nothing p image mem m n some e =
-    let c = compared_of m p.port3 in
-    let x = done_on p image mem c.machine in
-    ap (clocked_on m mem)
-    (by_test (λ (a : Action). a ≡ record { done = refused_of n m; ends1 = 0 }) (eqb x.refusal 0)
-    (λ t. absurd (some (sym e ∙ eqb-true x.refusal 0 t)))
-    (λ t. ap (λ k. record { done = refused_of k m; ends1 = 0 }) e))
-    ∙ unclocked n m mem
-
 -- what is done leaves them
-entering_leaves : (m : Machine) (n : ℕ) (r : Routine) → (entering m n r).machine.last3 ≡ m.last3
-unfolding entering
-entering_leaves m n routine.Past = refl
-entering_leaves m n (routine.At to) = entered_leaves m to n
-
 pub done_leaves : (p : Pins) (image mem : List ℕ) (m : Machine) (g : Grant) → (granted_or p image mem m g).machine.last3 ≡ m.last3
 unfolding granted_or
-done_leaves p image mem m grant.Nothing = execute_leaves_last3 p image mem m
-done_leaves p image mem m (grant.Request n) = entering_leaves m n (vector_of image n)
+done_leaves p image mem m grant.Nothing = (execute_leaves p image mem m).last3_left
+done_leaves p image mem m (grant.Request n) = entered_leaves m image n
 
 -- so after a step that is not refused they are those given
 pub step_last : (p : Pins) (image mem : List ℕ) (m : Machine) → (step_of p image mem m).refusal ≡ 0 → (step_of p image mem m).machine.last3 ≡ p.port3

@@ -1,16 +1,18 @@
 -- A step either is refused, and then nothing is changed, or costs 6 to 63 cycles and leaves a legal machine and bytes.
-use mathlib.Core.Path.{◌≡◌, refl, ap, sym, ◌∙◌, subst}
+use mathlib.Core.Path.{◌≡◌, refl, ap, sym, ◌∙◌}
 use mathlib.Core.List.{List, [], ◌∷◌}
-use Prim.Native.Nat.{ℕ, zero, suc, ◌+◌, ◌*◌, ◌≤◌, ◌<◌}
+use Prim.Native.Nat.{ℕ, zero, suc, ◌+◌, ◌≤◌, ◌<◌}
 use native.Mathlib.Omega.{arith}
 use lib.Dec.{eqb, ltb, leb, leb→le}
-use lib.ListN.{set, length}
-use borrow.Author.Tests.{eqb-true, eqb-false}
+use lib.ListN.{set}
+use borrow.Author.Tests.{eqb-true}
 use Rattle.word.specs.Words.{plus}
 use Rattle.word.proofs.Computed.{by_test, and_left, and_right}
 use Rattle.word.proofs.Iterate.{iter_zero}
-use Rattle.numbers.specs.Numbers.{refused_opcode, refused_past}
-use Rattle.machine.specs.Memory.{data_start, data_stored, stored_from, stored_in, list_of}
+use Rattle.opcodes.specs.Map.{entry_of}
+use Rattle.opcodes.specs.declared.Entry.{Entry}
+use Rattle.opcodes.specs.declared.Entry.TheVariants as entry
+use Rattle.machine.specs.Memory.{program_byte, data_start, data_stored, stored_from, stored_in, list_of}
 use Rattle.machine.specs.Clock.{cycle_of, span_of}
 use Rattle.machine.specs.Legal.{Legal}
 use Rattle.machine.specs.declared.Machine.{Machine}
@@ -22,18 +24,13 @@ use Rattle.machine.proofs.Legal.{LegalPins, AllBytes, span_legal}
 use Rattle.deeds.proofs.Fits.{AllRead}
 use Rattle.execute.specs.Execute.{Execution, refused_of, execute_of}
 use Rattle.execute.proofs.Legal.{FitStores, Sound, execute_sound}
-use Rattle.execute.proofs.Reading.{PastByte, Undefined, Went, went, past_refused, undefined_refused}
-use Rattle.execute.proofs.Reading.Went.{past as went-past, undefined as went-undefined, done as went-done}
+use Rattle.execute.proofs.Theorems.{undefined_refused, costs_6_to_20}
 use Rattle.interrupts.specs.Edges.{compared_of}
 use Rattle.interrupts.specs.Grants.{grant_of}
 use Rattle.interrupts.specs.declared.grants.Grant.{Grant}
 use Rattle.interrupts.specs.declared.grants.Grant.TheVariants as grant
-use Rattle.interrupts.specs.Entry.{vector_of}
-use Rattle.interrupts.specs.declared.entry.Routine.{Routine}
-use Rattle.interrupts.specs.declared.entry.Routine.TheVariants as routine
-use Rattle.interrupts.proofs.Entries.{vector_past, vector_is_past}
-use Rattle.interrupts.proofs.Legal.{compared_legal, compared_ends, FitRoutine, vector_fits, entered_legal, entered_fits}
-use Rattle.step.specs.Step.{Progress, Action, entering, granted_or, act_on, action_of, clocked_on, step_of}
+use Rattle.interrupts.proofs.Legal.{compared_legal, compared_ends, entered_legal, entered_fits}
+use Rattle.step.specs.Step.{Progress, Action, granted_or, act_on, action_of, clocked_on, step_of}
 use Rattle.step.specs.Run.{nothing_done}
 
 -- ---- data memory: bytes stored leave bytes
@@ -57,105 +54,50 @@ unfolding stored_in
 stored_read kind mem Nothing all f = all
 stored_read kind mem (At a b) all f = from_read kind mem a (list_of b) all f.1
 
--- ---- what is done, on compared pins
--- a byte that it reads is past the image: of the instruction, or of the vector
-pub data ReadsPast (p : Pins) (image : List ℕ) (m : Machine) : Type 0 where
-  instruction : grant_of m ≡ grant.Nothing → PastByte p image m → ReadsPast p image m
-  vector : (n : ℕ) → grant_of m ≡ grant.Request n → length image ≤ 2 * n + 1 → ReadsPast p image m
+-- ---- what is done
+-- it is not refused, and then costs 6 to 63 cycles, or it is
+abbrev Costs : Execution → Type 0
+Costs x = x.refusal ≡ 0 → (6 ≤ x.cycles) × (x.cycles ≤ 63)
 
--- it is refused with 11 or with 5, and then is nothing at all, or costs 6 to 63 cycles
-pub data Did (p : Pins) (image : List ℕ) (m : Machine) (x : Execution) : Type 0 where
-  past : ReadsPast p image m → x ≡ refused_of refused_past m → Did p image m x
-  undefined : grant_of m ≡ grant.Nothing → Undefined image m → x ≡ refused_of refused_opcode m → Did p image m x
-  taken : x.refusal ≡ 0 → 6 ≤ x.cycles → x.cycles ≤ 63 → Did p image m x
+five_not_0 : {A : Type 0} → ◌≡◌ {A = ℕ} 5 0 → A
+five_not_0 e = absurd (omega arith)
 
-module _ (p : Pins) (image mem : List ℕ) (m : Machine) where
-  abbrev pub done_on : Execution
-  done_on = granted_or p image mem m (grant_of m)
-
-  pub executed : grant_of m ≡ grant.Nothing → done_on ≡ execute_of p image mem m
-  unfolding granted_or
-  executed g = rw g
-
-  pub entered : {n : ℕ} (r : Routine) → grant_of m ≡ grant.Request n → vector_of image n ≡ r → done_on ≡ entering m n r
-  unfolding granted_or
-  entered r g v = rw (g, v)
-
-  pub reads_past_refused : ReadsPast p image m → done_on ≡ refused_of refused_past m
-  unfolding entering
-  reads_past_refused (instruction g far) = executed g ∙ past_refused p image mem m far
-  reads_past_refused (vector n g far) = entered routine.Past g (vector_past image n far)
-
-  pub undefined_done : grant_of m ≡ grant.Nothing → Undefined image m → done_on ≡ refused_of refused_opcode m
-  undefined_done g none = executed g ∙ undefined_refused p image mem m none
-
-  -- and there is no other way
-  pub did : Legal m → AllRead image → Did p image m done_on
-  unfolding entering
-  did l all = by_grant (grant_of m) refl
+module _ (p : Pins) (image mem : List ℕ) where
+  execute_costs : (m : Machine) → AllRead image → Costs (execute_of p image mem m)
+  execute_costs m all = go (entry_of (program_byte image m.pc)) refl
     where
-      executing : grant_of m ≡ grant.Nothing → Went p image m (execute_of p image mem m) → Did p image m done_on
-      executing g (went-past far e) = past (instruction g far) (executed g ∙ e)
-      executing g (went-undefined none e) = undefined g none (executed g ∙ e)
-      executing g (went-done i k f e d low high) =
-          let same = executed g in
-          taken (ap (λ (x : Execution). x.refusal) same ∙ d)
-          (subst (λ c. 6 ≤ c) (sym (ap (λ (x : Execution). x.cycles) same)) low)
-          (omega (arith, subst (λ c. c ≤ 20) (sym (ap (λ (x : Execution). x.cycles) same)) high))
+      go : (e : Entry) → entry_of (program_byte image m.pc) ≡ e → Costs (execute_of p image mem m)
+      go entry.Blank e d = five_not_0 (sym (ap (λ (x : Execution). x.refusal) (undefined_refused p image mem m e)) ∙ d)
+      go (entry.Of k) e d = let c = costs_6_to_20 p image mem m all e in (c.0, omega (arith, c.1))
 
-      entry_costs : (6 ≤ m.cost) × (m.cost ≤ 63)
-      entry_costs = (leb→le 6 m.cost (and_left (leb 6 m.cost) (leb m.cost 63) l.cost), leb→le m.cost 63 (and_right (leb 6 m.cost) (leb m.cost 63) l.cost))
+  pub granted_costs : (m : Machine) (g : Grant) → Legal m → AllRead image → Costs (granted_or p image mem m g)
+  unfolding granted_or
+  granted_costs m grant.Nothing l all = execute_costs m all
+  granted_costs m (grant.Request n) l all =
+      λ d. (leb→le 6 m.cost (and_left (leb 6 m.cost) (leb m.cost 63) l.cost), leb→le m.cost 63 (and_right (leb 6 m.cost) (leb m.cost 63) l.cost))
 
-      by_vector : (n : ℕ) → grant_of m ≡ grant.Request n → (r : Routine) → vector_of image n ≡ r → Did p image m done_on
-      by_vector n g routine.Past v = past (vector n g (vector_is_past image n v)) (entered routine.Past g v)
-      by_vector n g (routine.At to) v =
-          let same = entered (routine.At to) g v in
-          taken (ap (λ (x : Execution). x.refusal) same)
-          (subst (λ c. 6 ≤ c) (sym (ap (λ (x : Execution). x.cycles) same)) entry_costs.0)
-          (subst (λ c. c ≤ 63) (sym (ap (λ (x : Execution). x.cycles) same)) entry_costs.1)
-
-      by_grant : (g : Grant) → grant_of m ≡ g → Did p image m done_on
-      by_grant grant.Nothing g = executing g (went p image mem m all)
-      by_grant (grant.Request n) g = by_vector n g (vector_of image n) refl
-
-  pub granted_sound : Legal m → LegalPins p → AllRead image → AllRead mem → Sound done_on
-  unfolding granted_or entering
-  granted_sound l lp li lm = by_grant (grant_of m)
-    where
-      by_vector : (n : ℕ) (r : Routine) → FitRoutine r → Sound (entering m n r)
-      by_vector n routine.Past h = record { legal = l; fit = tt }
-      by_vector n (routine.At to) h = record { legal = entered_legal to n l h; fit = entered_fits m to n l }
-
-      by_grant : (g : Grant) → Sound (granted_or p image mem m g)
-      by_grant grant.Nothing = execute_sound p image mem m l lp li lm
-      by_grant (grant.Request n) = by_vector n (vector_of image n) (vector_fits image n li)
-
-not_0 : {A : Type 0} (n : ℕ) → suc n ≡ 0 → A
-not_0 n e = absurd (omega (arith, e))
-
--- what is not refused costs 6 to 63 cycles
-pub granted_costs : {p : Pins} {image : List ℕ} {m : Machine} {x : Execution} → Did p image m x → x.refusal ≡ 0 → (6 ≤ x.cycles) × (x.cycles ≤ 63)
-granted_costs (past far e) d = not_0 10 (sym (ap (λ (y : Execution). y.refusal) e) ∙ d)
-granted_costs (undefined g none e) d = not_0 4 (sym (ap (λ (y : Execution). y.refusal) e) ∙ d)
-granted_costs (taken d low high) _ = (low, high)
+  pub granted_sound : (m : Machine) (g : Grant) → Legal m → LegalPins p → AllRead image → AllRead mem → Sound (granted_or p image mem m g)
+  unfolding granted_or
+  granted_sound m grant.Nothing l lp li lm = execute_sound p image mem m l lp li lm
+  granted_sound m (grant.Request n) l lp li lm = record { legal = entered_legal image n l li; fit = entered_fits m image n l }
 
 -- an action is refused, and is nothing at all, or isn't
 pub data Act (m : Machine) (a : Action) : Type 0 where
-  refused : (n : ℕ) → (n ≡ 0 → ⊥) → a ≡ record { done = refused_of n m; ends1 = 0 } → Act m a
+  refused : a ≡ record { done = refused_of m; ends1 = 0 } → Act m a
   done : a.done.refusal ≡ 0 → 6 ≤ a.done.cycles → a.done.cycles ≤ 63 → a.ends1 ≤ 1 → Sound a.done → Act m a
 
 pub act_good : (p : Pins) (image mem : List ℕ) (m : Machine) → Legal m → LegalPins p → AllRead image → AllRead mem → Act m (action_of p image mem m)
 unfolding action_of act_on
 act_good p image mem m l lp li lm =
     let c = compared_of m p.port3 in
-    let x = done_on p image mem c.machine in
+    let x = granted_or p image mem c.machine (grant_of c.machine) in
     let lc = compared_legal p.port3 l lp.port3_byte in
     by_test (Act m) (eqb x.refusal 0)
     (λ t.
     let d = eqb-true x.refusal 0 t in
-    let k = granted_costs (did p image mem c.machine lc li) d in
-    done d k.0 k.1 (compared_ends m p.port3) (granted_sound p image mem c.machine lc lp li lm))
-    (λ t. refused x.refusal (eqb-false x.refusal 0 t) refl)
+    let k = granted_costs p image mem c.machine (grant_of c.machine) lc li d in
+    done d k.0 k.1 (compared_ends m p.port3) (granted_sound p image mem c.machine (grant_of c.machine) lc lp li lm))
+    (λ t. refused refl)
 
 -- ---- a step
 -- one that was taken
@@ -169,17 +111,17 @@ pub record Taken (s : Progress) : Type 0 where
   pub bytes : AllRead s.memory
 
 pub data Good (m : Machine) (mem : List ℕ) (s : Progress) : Type 0 where
-  refused : (n : ℕ) → (n ≡ 0 → ⊥) → s ≡ nothing_done n m mem → Good m mem s
+  refused : s ≡ nothing_done 5 m mem → Good m mem s
   taken : Taken s → Good m mem s
 
 -- a refusal costs no cycle
-pub unclocked : (n : ℕ) (m : Machine) (mem : List ℕ) → clocked_on m mem (record { done = refused_of n m; ends1 = 0 }) ≡ nothing_done n m mem
+pub unclocked : (m : Machine) (mem : List ℕ) → clocked_on m mem (record { done = refused_of m; ends1 = 0 }) ≡ nothing_done 5 m mem
 unfolding clocked_on span_of stored_in
-unclocked n m mem = rw (iter_zero cycle_of)
+unclocked m mem = rw (iter_zero cycle_of)
 
 pub clocked_good : (m : Machine) (mem : List ℕ) (a : Action) → AllRead mem → Act m a → Good m mem (clocked_on m mem a)
 unfolding clocked_on
-clocked_good m mem a lm (refused n some e) = refused n some (ap (clocked_on m mem) e ∙ unclocked n m mem)
+clocked_good m mem a lm (refused e) = refused (ap (clocked_on m mem) e ∙ unclocked m mem)
 clocked_good m mem a lm (done d low high few sound) =
     let l = sound.legal in
     let w = span_within a.done.machine l.file.long (l.file.bytes 0xF1) a.done.cycles in

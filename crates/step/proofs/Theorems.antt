@@ -1,12 +1,11 @@
 -- What the order asks of a step and a run beyond the contracts.
-use mathlib.Core.Path.{◌≡◌, ap, sym, ◌∙◌, subst}
-use mathlib.Core.Bool.{true, ◌&&◌}
+use mathlib.Core.Path.{◌≡◌, refl, ap, sym, ◌∙◌, subst}
+use mathlib.Core.Bool.{true, false, ◌&&◌}
 use mathlib.Core.List.{List}
 use Prim.Native.Nat.{ℕ, zero, suc, ◌+◌, ◌≤◌, ◌<◌}
 use native.Mathlib.Decide.{dec_lt}
 use native.Mathlib.Omega.{arith}
 use lib.Dec.{T, eqb, ltb}
-use lib.ListN.{length}
 use borrow.Author.Tests.{eqb-true, eqb-false, ltb-true, lt-ltb}
 use Rattle.word.proofs.Computed.{by_test}
 use Rattle.word.specs.Iter.{iter}
@@ -17,35 +16,34 @@ use Rattle.machine.specs.declared.Machine.{Machine}
 use Rattle.machine.specs.declared.Pins.{Pins}
 use Rattle.machine.proofs.Legal.{LegalPins}
 use Rattle.deeds.proofs.Fits.{AllRead}
-use Rattle.execute.specs.Execute.{Execution, refused_of}
-use Rattle.execute.proofs.Reading.{Undefined, whole_image}
+use Rattle.opcodes.specs.Map.{entry_of}
+use Rattle.opcodes.specs.Instruction.{defined}
+use Rattle.opcodes.specs.declared.Entry.{Entry}
+use Rattle.opcodes.specs.declared.Entry.TheVariants as entry
+use Rattle.opcodes.specs.declared.Kind.{Kind}
+use Rattle.machine.specs.Memory.{program_byte}
+use Rattle.execute.specs.Execute.{code_at}
 use Rattle.interrupts.specs.Edges.{compared_of}
 use Rattle.interrupts.specs.Grants.{grant_of}
 use Rattle.interrupts.specs.declared.grants.Grant.TheVariants as grant
-use Rattle.interrupts.proofs.Legal.{compared_legal}
-use Rattle.interrupts.proofs.Orders.{granted_low}
-use Rattle.step.specs.Step.{Progress, step_of}
-use Rattle.numbers.specs.Numbers.{refused_budget, refused_opcode, refused_past, budget_most}
+use Rattle.step.specs.Step.{Progress, clocked_on, step_of}
+use Rattle.numbers.specs.Numbers.{refused_budget, budget_most}
 use Rattle.step.specs.Run.{nothing_done, goes_on, one_more, steps_of, budget_refusal, run_of}
-use Rattle.step.proofs.Acts.{step_refusal, step_nothing}
-use Rattle.step.proofs.Good.{ReadsPast, Did, Taken, Good, done_on, did, reads_past_refused, undefined_done, step_good}
-use Rattle.step.proofs.Good.ReadsPast.{instruction, vector}
-use Rattle.step.proofs.Good.Did.{past as did-past, undefined as did-undefined, taken as did-taken}
+use Rattle.step.proofs.Acts.{blank_refused, kind_taken, request_taken}
+use Rattle.step.proofs.Good.{Taken, Good, unclocked, step_good}
 use Rattle.step.proofs.Good.Good.{refused, taken}
 
--- a request that is granted is one of the six
-grant_low : (m : Machine) → Legal m → (n : ℕ) → grant_of m ≡ grant.Request n → n < 6
-unfolding grant_of
-grant_low m l n g = granted_low _ _ _ n (l.file.bytes 0xF9) g
+-- five is a refusal
+five_refuses : {A : Type 0} → ◌≡◌ {A = ℕ} 5 0 → A
+five_refuses e = absurd (omega arith)
 
 module _ (p : Pins) (image : List ℕ) (lp : LegalPins p) (li : AllRead image) where
-  -- A step refused, with whichever number, changes nothing: not IRQ, TMR, the counts, T_OUT or the last pins either, and nothing is pushed.
-  pub refused_step : (mem : List ℕ) (m : Machine) → Legal m → AllRead mem → ((step_of p image mem m).refusal ≡ 0 → ⊥)
-      → step_of p image mem m ≡ nothing_done (step_of p image mem m).refusal m mem
+  -- A step refused is refused with 5, "nothing changed": not IRQ, TMR, the counts, T_OUT or the last pins either.
+  pub refused_step : (mem : List ℕ) (m : Machine) → Legal m → AllRead mem → ((step_of p image mem m).refusal ≡ 0 → ⊥) → step_of p image mem m ≡ nothing_done 5 m mem
   refused_step mem m l lm d = go (step_good p image mem m l lp li lm)
     where
-      go : Good m mem (step_of p image mem m) → step_of p image mem m ≡ nothing_done (step_of p image mem m).refusal m mem
-      go (refused n some e) = e ∙ ap (λ k. nothing_done k m mem) (sym (ap (λ (s : Progress). s.refusal) e))
+      go : Good m mem (step_of p image mem m) → step_of p image mem m ≡ nothing_done 5 m mem
+      go (refused e) = e
       go (taken t) = absurd (d t.not_refused)
 
   -- A step taken costs 6 to 63 cycles, and has at most one end of T0 for each, and one of T1 more.
@@ -53,7 +51,7 @@ module _ (p : Pins) (image : List ℕ) (lp : LegalPins p) (li : AllRead image) w
   taken_step mem m l lm d = go (step_good p image mem m l lp li lm)
     where
       go : Good m mem (step_of p image mem m) → Taken (step_of p image mem m)
-      go (refused n some e) = absurd (some (sym (ap (λ (s : Progress). s.refusal) e) ∙ d))
+      go (refused e) = five_refuses (sym (ap (λ (s : Progress). s.refusal) e) ∙ d)
       go (taken t) = t
 
   -- a legal machine stays legal, and data memory bytes
@@ -61,7 +59,7 @@ module _ (p : Pins) (image : List ℕ) (lp : LegalPins p) (li : AllRead image) w
   step_legal mem m l lm = go (step_good p image mem m l lp li lm)
     where
       go : Good m mem (step_of p image mem m) → Legal (step_of p image mem m).machine × AllRead (step_of p image mem m).memory
-      go (refused n some e) = (rw e l, rw e lm)
+      go (refused e) = (rw e l, rw e lm)
       go (taken t) = (t.legal, t.bytes)
 
   module _ (budget : ℕ) where
@@ -106,7 +104,7 @@ module _ (p : Pins) (image : List ℕ) (lp : LegalPins p) (li : AllRead image) w
         costs mem m l lm = go (step_good p image mem m l lp li lm)
           where
             go : Good m mem (step_of p image mem m) → (step_of p image mem m).cycles ≤ 63
-            go (refused n some e) = rw e (omega arith)
+            go (refused e) = rw e (omega arith)
             go (taken t) = t.costs_high
 
     kept : (mem : List ℕ) (m : Machine) → Legal m → AllRead mem → (turns : ℕ) → Kept turns (iter turns (one_more p image budget) (nothing_done 0 m mem))
@@ -139,85 +137,38 @@ module _ (p : Pins) (image : List ℕ) (lp : LegalPins p) (li : AllRead image) w
           reaches d (yes h) = ran.going d h
           reaches d (no n) = omega (arith, n)
 
--- ---- "given exactly when": 5 and 11, and no other number
-module _ (p : Pins) (image mem : List ℕ) (m : Machine) (l : Legal m) (lp : LegalPins p) (li : AllRead image) where
-  -- the machine with its pins compared: what is granted, and what LDC's pair reads, is asked of it
-  abbrev compared : Machine
-  compared = (compared_of m p.port3).machine
+-- Refusal 5 is given exactly where nothing is granted, the edges counted, and the opcode is undefined.
+module _ (p : Pins) (image mem : List ℕ) (m : Machine) (l : Legal m) where
+  pub undefined_refused : grant_of (compared_of m p.port3).machine ≡ grant.Nothing → entry_of (program_byte image m.pc) ≡ entry.Blank
+      → step_of p image mem m ≡ nothing_done 5 m mem
+  unfolding step_of code_at
+  undefined_refused g e = ap (clocked_on m mem) (blank_refused p image mem m l g e) ∙ unclocked m mem
 
-  done_as : Did p image compared (done_on p image mem compared)
-  done_as = did p image mem compared (compared_legal p.port3 l lp.port3_byte) li
+  pub defined_taken : {k : Kind} → grant_of (compared_of m p.port3).machine ≡ grant.Nothing → entry_of (program_byte image m.pc) ≡ entry.Of k
+      → (step_of p image mem m).refusal ≡ 0
+  unfolding step_of clocked_on code_at
+  defined_taken g e = kind_taken p image mem m l g e
 
-  number_is : (n : ℕ) → (step_of p image mem m).refusal ≡ n → (done_on p image mem compared).refusal ≡ n
-  number_is n e = sym (step_refusal p image mem m) ∙ e
+  pub granted_taken : {n : ℕ} → grant_of (compared_of m p.port3).machine ≡ grant.Request n → (step_of p image mem m).refusal ≡ 0
+  unfolding step_of clocked_on
+  granted_taken g = request_taken p image mem m l g
 
-  refused_with : (n : ℕ) → (n ≡ 0 → ⊥) → done_on p image mem compared ≡ refused_of n compared → step_of p image mem m ≡ nothing_done n m mem
-  refused_with n some e = step_nothing p image mem m n some (ap (λ (x : Execution). x.refusal) e)
-
-  -- 11, where a byte that the step reads is past the image: opcode, operand, what LDC or LDCI loads, or the vector
-  pub past_gives_11 : ReadsPast p image compared → step_of p image mem m ≡ nothing_done refused_past m mem
-  past_gives_11 far = refused_with refused_past (λ e. omega (arith, e)) (reads_past_refused p image mem compared far)
-
-  pub given_11_is_past : (step_of p image mem m).refusal ≡ refused_past → ReadsPast p image compared
-  given_11_is_past e = go done_as
+  -- the same, told by whether the opcode is defined
+  pub told_refused : grant_of (compared_of m p.port3).machine ≡ grant.Nothing → defined (entry_of (program_byte image m.pc)) ≡ false
+      → step_of p image mem m ≡ nothing_done 5 m mem
+  told_refused g d = go (entry_of (program_byte image m.pc)) refl
     where
-      go : Did p image compared (done_on p image mem compared) → ReadsPast p image compared
-      go (did-past far w) = far
-      go (did-undefined g none w) = let both : ◌≡◌ {A = ℕ} 5 11 = sym (ap (λ (x : Execution). x.refusal) w) ∙ number_is refused_past e in absurd (omega (arith, both))
-      go (did-taken d low high) = let both : ◌≡◌ {A = ℕ} 0 11 = sym d ∙ number_is refused_past e in absurd (omega (arith, both))
+      go : (e : Entry) → entry_of (program_byte image m.pc) ≡ e → step_of p image mem m ≡ nothing_done 5 m mem
+      go entry.Blank e = undefined_refused g e
+      go (entry.Of k) e = absurd (subst T (sym (ap defined e) ∙ d) tt)
 
-  -- 5, where nothing is granted and the opcode is there and undefined
-  pub undefined_gives_5 : grant_of compared ≡ grant.Nothing → Undefined image compared → step_of p image mem m ≡ nothing_done refused_opcode m mem
-  undefined_gives_5 g none = refused_with refused_opcode (λ e. omega (arith, e)) (undefined_done p image mem compared g none)
-
-  pub given_5_is_undefined : (step_of p image mem m).refusal ≡ refused_opcode → (grant_of compared ≡ grant.Nothing) × Undefined image compared
-  given_5_is_undefined e = go done_as
+  pub told_taken : grant_of (compared_of m p.port3).machine ≡ grant.Nothing → defined (entry_of (program_byte image m.pc)) ≡ true
+      → (step_of p image mem m).refusal ≡ 0
+  told_taken g d = go (entry_of (program_byte image m.pc)) refl
     where
-      go : Did p image compared (done_on p image mem compared) → (grant_of compared ≡ grant.Nothing) × Undefined image compared
-      go (did-past far w) = let both : ◌≡◌ {A = ℕ} 11 5 = sym (ap (λ (x : Execution). x.refusal) w) ∙ number_is refused_opcode e in absurd (omega (arith, both))
-      go (did-undefined g none w) = (g, none)
-      go (did-taken d low high) = let both : ◌≡◌ {A = ℕ} 0 5 = sym d ∙ number_is refused_opcode e in absurd (omega (arith, both))
-
-  -- nothing else refuses a step
-  pub neither_is_taken : (ReadsPast p image compared → ⊥) → ((grant_of compared ≡ grant.Nothing) × Undefined image compared → ⊥) → (step_of p image mem m).refusal ≡ 0
-  neither_is_taken inside there = go done_as
-    where
-      go : Did p image compared (done_on p image mem compared) → (step_of p image mem m).refusal ≡ 0
-      go (did-past far w) = absurd (inside far)
-      go (did-undefined g none w) = absurd (there (g, none))
-      go (did-taken d low high) = step_refusal p image mem m ∙ d
-
-  -- "An image of 65,536 bytes has no byte past it": it is never refused with 11.
-  pub whole_image_never_11 : length image ≡ 65536 → (step_of p image mem m).refusal ≡ refused_past → ⊥
-  whole_image_never_11 whole e = go (given_11_is_past e)
-    where
-      go : ReadsPast p image compared → ⊥
-      go (instruction g far) = whole_image p image compared (compared_legal p.port3 l lp.port3_byte) lp whole far
-      go (vector n g far) = let low = grant_low compared (compared_legal p.port3 l lp.port3_byte) n g in omega (arith, whole, far, low)
-
--- nor is a run
-module _ (p : Pins) (image : List ℕ) (lp : LegalPins p) (li : AllRead image) (budget : ℕ) (mem : List ℕ) (m : Machine) (l : Legal m) (lm : AllRead mem) (whole : length image ≡ 65536) where
-  turns_never_11 : (turns : ℕ) → (iter turns (one_more p image budget) (nothing_done 0 m mem)).refusal ≡ refused_past → ⊥
-  unfolding one_more goes_on
-  turns_never_11 zero e =
-      let none : ◌≡◌ {A = ℕ} 0 11 = sym (ap (λ (r : Progress). r.refusal) (iter_zero (one_more p image budget) (nothing_done 0 m mem))) ∙ e in
-      omega (arith, none)
-  turns_never_11 (suc turns) e =
-      let r = iter turns (one_more p image budget) (nothing_done 0 m mem) in
-      let k = kept p image lp li budget mem m l lm turns in
-      let last = sym (ap (λ (x : Progress). x.refusal) (iter_suc (one_more p image budget) turns (nothing_done 0 m mem))) ∙ e in
-      by_test (λ (x : Progress). x.refusal ≡ refused_past → ⊥) (eqb r.refusal 0 && ltb r.cycles budget)
-      (λ t. whole_image_never_11 p image r.memory r.machine k.legal lp li whole)
-      (λ t. turns_never_11 turns)
-      last
-
-  budget_not_11 : budget_refusal budget ≡ refused_past → ⊥
-  budget_not_11 = by_test (λ n. n ≡ refused_past → ⊥) (ltb budget_most budget) (λ t e. omega (arith, e)) (λ t e. omega (arith, e))
-
-  pub whole_image_run_never_11 : (run_of p image mem m budget).refusal ≡ refused_past → ⊥
-  unfolding run_of steps_of
-  whole_image_run_never_11 =
-      by_test (λ (r : Progress). r.refusal ≡ refused_past → ⊥) (eqb (budget_refusal budget) 0) (λ t. turns_never_11 budget) (λ t. budget_not_11)
+      go : (e : Entry) → entry_of (program_byte image m.pc) ≡ e → (step_of p image mem m).refusal ≡ 0
+      go entry.Blank e = absurd (subst T (sym d ∙ ap defined e) tt)
+      go (entry.Of k) e = defined_taken g e
 
 -- "Budget 0 changes nothing", whatever the pins
 pub run_nothing : (p : Pins) (image mem : List ℕ) (m : Machine) → run_of p image mem m 0 ≡ nothing_done 0 m mem

@@ -6,7 +6,7 @@ use Prim.Native.Nat.{ℕ, zero, suc, ◌+◌, ◌-◌, ◌*◌, ◌≤◌, ◌<�
 use native.Mathlib.Nat.{zero-add, add-zero}
 use native.Mathlib.Omega.{arith}
 use lib.Dec.{eqb, ltb}
-use borrow.Author.Tests.{lt-ltb, le-ltb, ne_eqb}
+use borrow.Author.Tests.{lt-ltb, le-ltb}
 use Rattle.word.specs.Iter.{iter}
 use Rattle.word.proofs.Iterate.{iter_zero, iter_one, iter_suc, iter_split, iter_fixed}
 use Rattle.machine.specs.Clock.{span_of}
@@ -21,10 +21,8 @@ use Rattle.interrupts.proofs.Steady.{compared_leaves, compared_last}
 use Rattle.interrupts.proofs.Legal.{compared_legal}
 use Rattle.step.specs.Step.{Progress, clocked_on, step_of}
 use Rattle.step.specs.Run.{nothing_done, further, goes_on, one_more, steps_of, run_of}
-use Rattle.step.specs.ForCode.{ran_from, progress_in}
-use Rattle.step.specs.declared.Tally.{Tally}
-use Rattle.step.proofs.Good.{Taken, Good, done_on, step_good}
-use Rattle.step.proofs.Acts.{action_is, action_taken, step_refusal, step_nothing, step_last}
+use Rattle.step.proofs.Good.{Taken, Good, step_good}
+use Rattle.step.proofs.Acts.{done_on, action_is, action_taken, step_last}
 use Rattle.step.proofs.Good.Good.{refused, taken}
 
 -- no step taken yet, the pins compared, and T1's ends by that
@@ -113,53 +111,28 @@ module _ (p : Pins) (image mem₀ : List ℕ) (m₀ : Machine) (ends1₀ budget 
   pub reached : {r : Progress} → SoFar r → budget ≤ r.cycles → r ≡ all_turns
   reached {r} f h = settled f.turns f.turns_within f.come (rests r h)
 
-  -- a step is refused, with this number
-  abbrev pub stopped_at : ℕ → Progress → Progress
-  stopped_at n r = record { refusal = n; cycles = r.cycles; ends0 = r.ends0; ends1 = r.ends1; machine = r.machine; memory = r.memory }
+  -- a step is refused
+  abbrev pub stopped_at : Progress → Progress
+  stopped_at r = record { refusal = 5; cycles = r.cycles; ends0 = r.ends0; ends1 = r.ends1; machine = r.machine; memory = r.memory }
 
-  stays : (n : ℕ) → (n ≡ 0 → ⊥) → (r : Progress) → one_more p image budget (stopped_at n r) ≡ stopped_at n r
+  stays : (r : Progress) → one_more p image budget (stopped_at r) ≡ stopped_at r
   unfolding one_more goes_on
-  stays n some r = let stop : eqb n 0 ≡ false = ne_eqb n 0 some in rw stop
+  stays r = refl
 
-  nothing_more : (n : ℕ) (r : Progress) → stopped_at n r ≡ further r (nothing_done n r.machine r.memory)
-  nothing_more n r = rw (add-zero r.cycles, add-zero r.ends0, add-zero r.ends1)
+  nothing_more : (r : Progress) → stopped_at r ≡ further r (nothing_done 5 r.machine r.memory)
+  nothing_more r = rw (add-zero r.cycles, add-zero r.ends0, add-zero r.ends1)
 
-  -- the turn of a step that is refused
-  stops : (n : ℕ) {r : Progress} → r.refusal ≡ 0 → r.cycles < budget → step_of p image r.memory r.machine ≡ nothing_done n r.machine r.memory
-      → stopped_at n r ≡ one_more p image budget r
-  stops n {r} d h e = nothing_more n r ∙ ap (further r) (sym e) ∙ sym (goes r d h)
-
-  pub stopped : (n : ℕ) → (n ≡ 0 → ⊥) → {r : Progress} → SoFar r → r.cycles < budget → step_of p image r.memory r.machine ≡ nothing_done n r.machine r.memory
-      → stopped_at n r ≡ all_turns
-  stopped n some {r} f h e =
+  pub stopped : {r : Progress} → SoFar r → r.cycles < budget → step_of p image r.memory r.machine ≡ nothing_done 5 r.machine r.memory
+      → stopped_at r ≡ all_turns
+  stopped {r} f h e =
       let few = f.turns_few in
       settled (suc f.turns) (omega (arith, few, h))
-      (stops n f.not_refused h e ∙ ap turn f.come ∙ sym (iter_suc turn f.turns begin))
-      (stays n some r)
-
-  -- where no cycle is spent, no turn was taken
-  pub none_taken : {r : Progress} → SoFar r → r.cycles ≡ 0 → r ≡ compared_first ends1₀ m₀ mem₀
-  none_taken {r} f z =
-      let few = f.turns_few in
-      let none : f.turns ≡ 0 = omega (arith, few, z) in
-      f.come ∙ ap (λ k. iter k turn begin) none ∙ iter_zero turn begin
-
-  -- where some are, the first step was not refused
-  module _ (l₀ : Legal m₀) (lp₀ : LegalPins p) (li₀ : AllRead image) (lm₀ : AllRead mem₀) where
-    pub first_taken : {r : Progress} → SoFar r → 0 < budget → 0 < r.cycles → (step_of p image mem₀ m₀).refusal ≡ 0
-    first_taken {r} f some spent = go (step_good p image mem₀ m₀ l₀ lp₀ li₀ lm₀)
-      where
-        stuck : (n : ℕ) → (n ≡ 0 → ⊥) → step_of p image mem₀ m₀ ≡ nothing_done n m₀ mem₀ → (k : ℕ) → r ≡ iter k turn begin → ⊥
-        stuck n non e zero came = let none = ap (λ (x : Progress). x.cycles) (came ∙ iter_zero turn begin) in omega (arith, spent, none)
-        stuck n non e (suc k) came =
-            let one : turn begin ≡ stopped_at n begin = sym (stops n refl some e) in
-            let rest : iter (suc k) turn begin ≡ stopped_at n begin =
-            iter_split turn (suc k) k 1 (omega arith) begin ∙ ap (iter k turn) (iter_one turn begin ∙ one) ∙ iter_fixed turn (stopped_at n begin) (stays n non begin) k in
-            non (sym (ap (λ (x : Progress). x.refusal) (came ∙ rest)) ∙ f.not_refused)
-
-        go : Good m₀ mem₀ (step_of p image mem₀ m₀) → (step_of p image mem₀ m₀).refusal ≡ 0
-        go (refused n non e) = absurd (stuck n non e f.turns f.come)
-        go (taken t) = t.not_refused
+      (nothing_more r
+      ∙ ap (further r) (sym e)
+      ∙ sym (goes r f.not_refused h)
+      ∙ ap turn f.come
+      ∙ sym (iter_suc turn f.turns begin))
+      (stays r)
 
   -- the same of a step as the code has it: s is the step from r
   module _ (lp : LegalPins p) (li : AllRead image) {r s : Progress} (f : SoFar r) (h : r.cycles < budget) (e : s ≡ step_of p image r.memory r.machine) where
@@ -170,7 +143,7 @@ module _ (p : Pins) (image mem₀ : List ℕ) (m₀ : Machine) (ends1₀ budget 
     was_taken d = go good
       where
         go : Good r.machine r.memory (step_of p image r.memory r.machine) → Taken s
-        go (refused n some x) = absurd (some (sym (ap (λ (y : Progress). y.refusal) (e ∙ x)) ∙ d))
+        go (refused x) = let five : ◌≡◌ {A = ℕ} 5 0 = sym (ap (λ (y : Progress). y.refusal) (e ∙ x)) ∙ d in absurd (omega (arith, five))
         go (taken t) = subst Taken (sym e) t
 
     pub one_on : Taken s
@@ -187,23 +160,28 @@ module _ (p : Pins) (image mem₀ : List ℕ) (m₀ : Machine) (ends1₀ budget 
       where
         go : Good r.machine r.memory (step_of p image r.memory r.machine)
             → ◌≡◌ {A = Progress} (record { refusal = s.refusal; cycles = r.cycles; ends0 = r.ends0; ends1 = r.ends1; machine = s.machine; memory = s.memory }) all_turns
-        go (refused n some x) =
+        go (refused x) =
             ap (λ (y : Progress). record { refusal = y.refusal; cycles = r.cycles; ends0 = r.ends0; ends1 = r.ends1; machine = y.machine; memory = y.memory }) (e ∙ x)
-            ∙ stopped n some f h x
+            ∙ stopped f h x
         go (taken t) = absurd (d (ap (λ (y : Progress). y.refusal) e ∙ t.not_refused))
 
 -- a run whose first step is refused
-refused_first : (p : Pins) (image mem : List ℕ) (m : Machine) (budget n : ℕ) → (n ≡ 0 → ⊥) → 0 < budget → step_of p image mem m ≡ nothing_done n m mem
-    → nothing_done n m mem ≡ steps_of p image mem m budget
+pub refused_first : (p : Pins) (image mem : List ℕ) (m : Machine) (budget : ℕ) → 0 < budget → step_of p image mem m ≡ nothing_done 5 m mem
+    → nothing_done 5 m mem ≡ steps_of p image mem m budget
 unfolding steps_of
-refused_first p image mem m budget n some h e =
+refused_first p image mem m budget h e =
     let f = one_more p image budget in
     let b = nothing_done 0 m mem in
-    settled p image mem m 0 budget 1 (omega (arith, h)) (stops p image mem m 0 budget n refl h e ∙ sym (iter_one f b)) (stays p image mem m 0 budget n some b)
+    settled p image mem m 0 budget 1 (omega (arith, h))
+    (nothing_more p image mem m 0 budget b
+    ∙ ap (further b) (sym e)
+    ∙ sym (goes p image mem m 0 budget b refl h)
+    ∙ sym (iter_one f b))
+    (stays p image mem m 0 budget b)
 
 -- Compared before the first step or with it, it is the same run: where the first step is not refused, T1's ends by the edges are told apart
 -- from those of the clock.
-module _ (p : Pins) (image mem : List ℕ) (m : Machine) (l : Legal m) (lp : LegalPins p) (li : AllRead image) where
+module _ (p : Pins) (image mem : List ℕ) (m : Machine) (l : Legal m) (lp : LegalPins p) where
   abbrev seen : Comparison
   seen = compared_of m p.port3
 
@@ -218,12 +196,7 @@ module _ (p : Pins) (image mem : List ℕ) (m : Machine) (l : Legal m) (lp : Leg
   unfolding step_of
   from_compared =
       ap (clocked_on seen.machine mem)
-      (action_is p image mem seen.machine (compared_legal p.port3 l lp.port3_byte) li (compared_last m p.port3))
-
-  -- refused or not, it is so from both, with the same number
-  same_number : (step_of p image mem m).refusal ≡ (step_of p image mem seen.machine).refusal
-  unfolding clocked_on
-  same_number = step_refusal p image mem m ∙ sym (ap (λ (s : Progress). s.refusal) from_compared)
+      (action_is p image mem seen.machine (compared_legal p.port3 l lp.port3_byte) (compared_last m p.port3))
 
   -- the first step, from the machine as it was and from the compared one
   first_step : (step_of p image mem m).refusal ≡ 0
@@ -233,33 +206,11 @@ module _ (p : Pins) (image mem : List ℕ) (m : Machine) (l : Legal m) (lp : Leg
       let ends = (span_of done.cycles done.machine).ends1 in
       rw (from_before d, from_compared, (compared_leaves m p.port3 l.file.long (l.file.bytes 0xF1)).kind_left, zero-add (seen.ends1 + ends), zero-add ends)
 
-  -- taken from the compared machine
-  taken_from_before : (c : Comparison) → c ≡ compared_of m p.port3 → (step_of p image mem c.machine).refusal ≡ 0 → (step_of p image mem m).refusal ≡ 0
-  taken_from_before c e d = same_number ∙ rw e at d
-
-  -- refused from the compared machine: then the run is nothing but its number, and the machine is the one from before
-  pub refused_from_before : (budget : ℕ) (c : Comparison) (s : Progress) → c ≡ compared_of m p.port3 → 0 < budget → AllRead mem
-      → s ≡ step_of p image mem c.machine → (s.refusal ≡ 0 → ⊥)
-      → ◌≡◌ {A = Progress} (record { refusal = s.refusal; cycles = 0; ends0 = 0; ends1 = 0; machine = m; memory = s.memory }) (steps_of p image mem m budget)
-  refused_from_before budget c s e some lm from non = go (step_good p image mem seen.machine (compared_legal p.port3 l lp.port3_byte) lp li lm)
-    where
-      is : s ≡ step_of p image mem seen.machine
-      is = rw e at from
-
-      go : Good seen.machine mem (step_of p image mem seen.machine)
-          → ◌≡◌ {A = Progress} (record { refusal = s.refusal; cycles = 0; ends0 = 0; ends1 = 0; machine = m; memory = s.memory }) (steps_of p image mem m budget)
-      go (taken t) = absurd (non (ap (λ (x : Progress). x.refusal) is ∙ t.not_refused))
-      go (refused n Some-number x) =
-          let number : (step_of p image mem m).refusal ≡ n = same_number ∙ ap (λ (y : Progress). y.refusal) x in
-          ap (λ (y : Progress). record { refusal = y.refusal; cycles = 0; ends0 = 0; ends1 = 0; machine = m; memory = y.memory }) (is ∙ x)
-          ∙ refused_first p image mem m budget n Some-number some (step_nothing p image mem m n Some-number (sym (step_refusal p image mem m) ∙ number))
-
-  pub compared_before : (budget : ℕ) (c : Comparison) → c ≡ compared_of m p.port3 → 0 < budget → (step_of p image mem c.machine).refusal ≡ 0
+  pub compared_before : (budget : ℕ) (c : Comparison) → c ≡ compared_of m p.port3 → 0 < budget → (step_of p image mem m).refusal ≡ 0
       → all_turns p image mem c.machine c.ends1 budget ≡ steps_of p image mem m budget
   unfolding steps_of
   compared_before zero c e h d = absurd (omega arith)
-  compared_before (suc n) c e h from =
-      let d = taken_from_before c e from in
+  compared_before (suc n) c e h d =
       let f = one_more p image (suc n) in
       let a = compared_first seen.ends1 seen.machine mem in
       let b = nothing_done 0 m mem in
@@ -285,7 +236,3 @@ one_step p image mem m =
 pub one_run : (p : Pins) (image mem : List ℕ) (m : Machine) → run_of p image mem m 1 ≡ step_of p image mem m
 unfolding run_of
 one_run p image mem m = one_step p image mem m
-
--- where cycles were spent, the machine that steps have left is theirs
-pub ran_some : (before m : Machine) (mem : List ℕ) (w : Tally) → 0 < w.cycles → ran_from before m mem w ≡ progress_in m mem w
-ran_some before m mem w h = let some : eqb w.cycles 0 ≡ false = ne_eqb w.cycles 0 (λ z. omega (arith, h, z)) in rw some

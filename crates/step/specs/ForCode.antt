@@ -1,14 +1,13 @@
 -- For the contracts of the code alone, which returns in parts what the definitions say whole: nothing here has to be believed.
-use Rattle.std.specs.Prelude.{List, ℕ, eqb}
-use Rattle.numbers.specs.Numbers.{refused_opcode, refused_past}
-use Rattle.word.specs.Choose.{pick}
+use Rattle.std.specs.Prelude.{Bool, false, not, List, ℕ}
 use Rattle.opcodes.specs.Instruction.{defined}
 use Rattle.opcodes.specs.Map.{entry_of}
+use Rattle.opcodes.specs.declared.Entry.{Entry}
 use Rattle.machine.specs.Memory.{program_byte}
 use Rattle.machine.specs.Clock.{Ran}
 use Rattle.machine.specs.declared.Machine.{Machine}
-use Rattle.machine.specs.declared.memory.ProgramByte.{ProgramByte}
-use Rattle.machine.specs.declared.memory.ProgramByte.TheVariants.{Past, Byte}
+use Rattle.machine.specs.declared.Pins.{Pins}
+use Rattle.interrupts.specs.Edges.{compared_of}
 use Rattle.interrupts.specs.Grants.{grant_of}
 use Rattle.interrupts.specs.declared.grants.Grant.{Grant}
 use Rattle.step.specs.declared.Tally.{Tally}
@@ -22,22 +21,13 @@ abbrev pub progress_in : Machine → List ℕ → Tally → Progress
 progress_in m mem w =
     record { refusal = w.refusal; cycles = w.cycles; ends0 = w.ends0; ends1 = w.ends1; machine = m; memory = mem }
 
--- The code tells a refused step by its 0 cycles, and asks why only then: an undefined opcode is 5, everything else 11.
-abbrev pub why_at : ProgramByte → ℕ
-why_at Past = refused_past
-why_at (Byte op) = pick (defined (entry_of op)) refused_past refused_opcode
+-- whether a step is refused, which is known before anything is stored
+abbrev pub refused_where : Grant → Entry → Bool
+refused_where grant.Nothing e = not (defined e)
+refused_where (grant.Request n) e = false
 
-abbrev pub why_where : Grant → ProgramByte → ℕ
-why_where grant.Nothing b = why_at b
-why_where (grant.Request n) b = refused_past
-
-unfoldable pub why_of : List ℕ → Machine → ℕ
-why_of image m = why_where (grant_of m) (program_byte image m.pc)
-
--- what steps come to beside a machine that they have left: where none was taken, pins may have been compared, and it is the machine from before
--- that counts
-abbrev pub ran_from : Machine → Machine → List ℕ → Tally → Progress
-ran_from before m mem w = progress_in (pick (eqb w.cycles 0) before m) mem w
+unfoldable pub is_refused_of : Pins → List ℕ → Machine → Bool
+is_refused_of p image m = refused_where (grant_of (compared_of m p.port3).machine) (entry_of (program_byte image m.pc))
 
 -- the same of a machine by value, beside a lent data memory
 abbrev pub progress_of : List ℕ → stepped.Progress → Progress

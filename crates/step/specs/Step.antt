@@ -1,6 +1,5 @@
 -- One step (01 "One step").
 use Rattle.std.specs.Prelude.{List, ℕ, ◌+◌, eqb}
-use Rattle.numbers.specs.Numbers.{refused_past}
 use Rattle.word.specs.Choose.{pick}
 use Rattle.machine.specs.Clock.{span_of}
 use Rattle.machine.specs.Stack.{Stacked}
@@ -9,9 +8,7 @@ use Rattle.machine.specs.declared.Pins.{Pins}
 use Rattle.execute.specs.Execute.{Execution, refused_of, memory_after, execute_of}
 use Rattle.interrupts.specs.Edges.{Comparison, compared_of}
 use Rattle.interrupts.specs.Grants.{grant_of}
-use Rattle.interrupts.specs.Entry.{vector_of, entered_of}
-use Rattle.interrupts.specs.declared.entry.Routine.{Routine}
-use Rattle.interrupts.specs.declared.entry.Routine.TheVariants as routine
+use Rattle.interrupts.specs.Entry.{entered_of}
 use Rattle.interrupts.specs.declared.grants.Grant.{Grant}
 use Rattle.interrupts.specs.declared.grants.Grant.TheVariants as grant
 
@@ -28,24 +25,20 @@ pub record Progress : Type 0 where
 abbrev pub costing_entry : ℕ → Stacked → Execution
 costing_entry cost s = record { refusal = 0; cycles = cost; stores = s.stores; machine = s.machine }
 
--- request n entered, or refused with 11 where its vector is past the image (02, C-17)
-unfoldable pub entering : Machine → ℕ → Routine → Execution
-entering m n routine.Past = refused_of refused_past m
-entering m n (routine.At to) = costing_entry m.cost (entered_of to m n)
-
 -- "Grant an interrupt, or else execute one instruction." A granted step looks at no opcode.
 unfoldable pub granted_or : Pins → List ℕ → List ℕ → Machine → Grant → Execution
 granted_or p image mem m grant.Nothing = execute_of p image mem m
-granted_or p image mem m (grant.Request n) = entering m n (vector_of image n)
+granted_or p image mem m (grant.Request n) = costing_entry m.cost (entered_of image m n)
 
 -- what is done on compared pins, and T1's ends by the edges alone
 pub record Action : Type 0 where
   pub done : Execution
   pub ends1 : ℕ
 
--- Where that is refused, "nothing changed": m is as before its pins were compared, so IRQ, TMR, T1, T_OUT and the last pins too are as they were.
+-- It is refused exactly where the opcode is undefined and nothing is granted, the requests just latched by edges included. "Nothing changed": m is as
+-- before its pins were compared, so IRQ, TMR, T1, T_OUT and the last pins too are as they were.
 unfoldable pub act_on : Machine → Comparison → Execution → Action
-act_on m c x = pick (eqb x.refusal 0) (record { done = x; ends1 = c.ends1 }) (record { done = refused_of x.refusal m; ends1 = 0 })
+act_on m c x = pick (eqb x.refusal 0) (record { done = x; ends1 = c.ends1 }) (record { done = refused_of m; ends1 = 0 })
 
 unfoldable pub action_of : Pins → List ℕ → List ℕ → Machine → Action
 action_of p image mem m =

@@ -1,21 +1,17 @@
 // The whole chip: one step, the bounded run, the span (01 "One step"). A `Machine` goes by value; below `step` and `run` it is lent.
-ghost use Rattle.std.specs.Prelude.{◌≡◌, ◌≤◌, ◌<◌};
-ghost use Rattle.numbers.specs.Numbers.{budget_most};
+ghost use Rattle.std.specs.Prelude.{◌≡◌, true, false, List, ℕ, ◌≤◌};
+ghost use Rattle.numbers.specs.Numbers.{refused_opcode, budget_most};
 ghost use Rattle.machine.specs.Legal.{Legal};
 ghost use Rattle.machine.specs.Clock.{span_of};
 ghost use Rattle.lent.specs.View.{core_in, machine_in};
 ghost use Rattle.execute.specs.ForCode.{performed, performed_by};
 ghost use Rattle.interrupts.specs.Grants.{grant_of};
-ghost use Rattle.interrupts.specs.ForCode.{number_of};
-ghost use Rattle.interrupts.specs.declared.grants.Grant.TheVariants.{Nothing, Request};
 ghost use Rattle.step.specs.Step.{granted_or, step_of};
-ghost use Rattle.step.specs.Run.{steps_of, run_of};
-ghost use Rattle.step.specs.ForCode.{progress_in, why_of, ran_from, progress_of, ran_by};
+ghost use Rattle.step.specs.Run.{nothing_done, steps_of, run_of};
+ghost use Rattle.step.specs.ForCode.{progress_in, is_refused_of, progress_of, ran_by};
 
-use interrupts::entry::Routine;
-use interrupts::grants::{Grant, NONE};
+use interrupts::grants::Grant;
 use lent::Rest;
-use machine::memory::ProgramByte;
 use machine::{File, Machine, Pins, names};
 
 // What a step or a run comes to in numbers, where the machine and the data memory are lent.
@@ -45,63 +41,20 @@ pub struct Ran {
     pub machine: Machine,
 }
 
-// What is granted, by its number, or `NONE`.
-fn grant(regs: &File, rest: &Rest) -> u8
-    ensures value { result ≡ number_of (grant_of (machine_in regs.now rest.now)) }
-    ensures request { result < 6 → grant_of (machine_in regs.now rest.now) ≡ Request result }
-    ensures none { 6 ≤ result → grant_of (machine_in regs.now rest.now) ≡ Nothing }
-{
-    let irq = machine::file::held(regs, names::IRQ);
-    let imr = machine::file::held(regs, names::IMR);
-    let ipr = machine::file::held(regs, names::IPR);
-    interrupts::grants::granted(irq, imr, ipr)
-}
-
 // A grant, or else an instruction, where the pins have been compared: its cycles, or 0 where it is refused.
 fn act(regs: &mut File, rest: &mut Rest, pins: Pins, image: &[u8], mem: &mut [u8]) -> u32
     ensures { performed (machine_in regs.new rest.new) mem.new result ≡ performed_by (machine_in regs.old rest.old) mem.old (granted_or pins image.now mem.old (machine_in regs.old rest.old) (grant_of (machine_in regs.old rest.old))) }
 {
-    let n = grant(regs, rest);
-    if n < NONE {
-        let routine = interrupts::entry::vector(image, n);
-        return match routine {
-            Routine::Past => execute::doing::REFUSED,
-            Routine::At(to) => {
-                let cost = lent::cost(rest);
-                interrupts::entry::enter(regs, rest, mem, n, to);
-                cost as u32
-            }
-        };
-    }
-    perform::execute_here(regs, rest, pins, mem, image)
-}
-
-// Why a step was refused, asked where it was. (`standing` and `highest` are called and not `grant`, which goes in line in `act` as long as that is
-// its one caller.)
-fn why(regs: &File, rest: &Rest, image: &[u8]) -> u8
-    ensures { result ≡ why_of image.now (machine_in regs.now rest.now) }
-{
     let irq = machine::file::held(regs, names::IRQ);
     let imr = machine::file::held(regs, names::IMR);
     let ipr = machine::file::held(regs, names::IPR);
-    let standing = interrupts::grants::standing(irq, imr);
-    let g = interrupts::grants::highest(standing, ipr);
+    let g = interrupts::grants::granted(irq, imr, ipr);
     match g {
-        Grant::Request(_) => numbers::REFUSED_PAST,
-        Grant::Nothing => {
-            let pc = lent::pc(rest);
-            let there = machine::memory::program(image, pc);
-            match there {
-                ProgramByte::Past => numbers::REFUSED_PAST,
-                ProgramByte::Byte(op) => {
-                    let defined = opcodes::map::is_defined(op);
-                    if defined {
-                        numbers::REFUSED_PAST
-                    } else {
-                        numbers::REFUSED_OPCODE
-                    }
-                }
-            }
+        Grant::Nothing => perform::execute_here(regs, rest, pins, mem, image),
+        Grant::Request(n) => {
+            let cost = lent::cost(rest);
+            interrupts::entry::enter(regs, rest, mem, image, n);
+            cost as u32
         }
     }
 }
@@ -114,9 +67,8 @@ fn step_in(regs: &mut File, rest: &mut Rest, pins: Pins, image: &[u8], mem: &mut
 {
     let cycles = act(regs, rest, pins, image, mem);
     if cycles == 0 {
-        let refusal = why(regs, rest, image); // nothing was stored
         return Tally {
-            refusal,
+            refusal: numbers::REFUSED_OPCODE, // nothing was stored
             cycles: 0,
             ends0: 0,
             ends1: 0,
@@ -131,9 +83,31 @@ fn step_in(regs: &mut File, rest: &mut Rest, pins: Pins, image: &[u8], mem: &mut
     }
 }
 
+// Whether the next step is refused: nothing is granted, the edges counted, and the opcode is undefined. That is known before anything is
+// stored.
+fn is_refused(regs: &File, rest: &Rest, pins: Pins, image: &[u8]) -> bool
+    requires { Legal (machine_in regs.now rest.now) }
+    ensures value { result ≡ is_refused_of pins image.now (machine_in regs.now rest.now) }
+    ensures refused { result ≡ true → (mem : List ℕ) → step_of pins image.now mem (machine_in regs.now rest.now) ≡ nothing_done refused_opcode (machine_in regs.now rest.now) mem }
+    ensures taken { result ≡ false → (mem : List ℕ) → (step_of pins image.now mem (machine_in regs.now rest.now)).refusal ≡ 0 }
+{
+    let irq = interrupts::edges::requests(regs, rest, pins.port3);
+    let imr = machine::file::held(regs, names::IMR);
+    let ipr = machine::file::held(regs, names::IPR);
+    let standing = interrupts::grants::standing(irq, imr);
+    let g = interrupts::grants::highest(standing, ipr);
+    match g {
+        Grant::Nothing => {
+            let pc = lent::pc(rest);
+            let op = machine::memory::program(image, pc);
+            !opcodes::map::is_defined(op)
+        }
+        Grant::Request(_) => false,
+    }
+}
+
 // Steps in turn until their cycles reach the budget, or one is refused. "A run holds the pins": after the first step they are the last, so
-// they are compared once, before the steps. Where the first step is refused the machine is left with its pins compared, and `run` answers the
-// one that it kept. A refused step has stored nothing else.
+// they are compared once, before the steps, where the first is not refused.
 fn steps(
     regs: &mut File,
     rest: &mut Rest,
@@ -144,11 +118,20 @@ fn steps(
 ) -> Tally
     requires legal { Legal (machine_in regs.old rest.old) }
     requires budget_le_budget_most { budget ≤ budget_most }
-    ensures { ran_from (machine_in regs.old rest.old) (machine_in regs.new rest.new) mem.new result ≡ steps_of pins image.now mem.old (machine_in regs.old rest.old) budget }
+    ensures { progress_in (machine_in regs.new rest.new) mem.new result ≡ steps_of pins image.now mem.old (machine_in regs.old rest.old) budget }
 {
     if budget == 0 {
         return Tally {
             refusal: numbers::DONE,
+            cycles: 0,
+            ends0: 0,
+            ends1: 0,
+        };
+    }
+    let refused = is_refused(regs, rest, pins, image);
+    if refused {
+        return Tally {
+            refusal: numbers::REFUSED_OPCODE,
             cycles: 0,
             ends0: 0,
             ends1: 0,
@@ -160,14 +143,6 @@ fn steps(
     while cycles < budget {
         let s = step_in(regs, rest, pins, image, mem);
         if s.refusal != numbers::DONE {
-            if cycles == 0 {
-                return Tally {
-                    refusal: s.refusal,
-                    cycles: 0,
-                    ends0: 0,
-                    ends1: 0,
-                };
-            }
             return Tally {
                 refusal: s.refusal,
                 cycles,
@@ -204,16 +179,6 @@ pub fn run(m: Machine, pins: Pins, image: &[u8], mem: &mut [u8], budget: u32) ->
     let mut regs = m.regs;
     let mut rest = lent::lend(m);
     let w = steps(&mut regs, &mut rest, pins, image, mem, budget);
-    if w.cycles == 0 {
-        // no step was taken
-        return Progress {
-            refusal: w.refusal,
-            cycles: w.cycles,
-            ends0: w.ends0,
-            ends1: w.ends1,
-            machine: m,
-        };
-    }
     let after = lent::machine_of(regs, &rest);
     Progress {
         refusal: w.refusal,

@@ -1,20 +1,15 @@
 -- What the order asks of the calls beyond their contracts.
-use mathlib.Core.Path.{◌≡◌, ◌∙◌, refl, sym, ap, subst}
-use mathlib.Core.Bool.{true, false}
+use mathlib.Core.Path.{◌≡◌, ◌∙◌, refl, sym, ap}
+use mathlib.Core.Bool.{true}
 use mathlib.Core.List.{List, [], ◌∷◌}
 use Prim.Native.Nat.{ℕ, ◌<◌}
-use native.Mathlib.Omega.{arith}
-use lib.Dec.{T, eqb, ltb}
+use lib.Dec.{eqb, ltb}
 use lib.ListN.{length}
 use borrow.Author.Tests.{eqb-false, lt-ltb}
-use Rattle.numbers.specs.Numbers.{version, refused_image, refused_past, image_most}
+use Rattle.numbers.specs.Numbers.{version, refused_image, image_most}
 use Rattle.word.specs.Choose.{pick}
 use Rattle.word.proofs.Computed.{by_test}
-use Rattle.word.specs.Words.{plus}
-use Rattle.opcodes.specs.Map.{entry_of}
-use Rattle.opcodes.specs.Instruction.{decoded_as, decode_of, encode_of}
-use Rattle.opcodes.specs.declared.Entry.{Entry}
-use Rattle.opcodes.specs.declared.Entry.TheVariants.{Blank, Of}
+use Rattle.opcodes.specs.Instruction.{decode_of, encode_of}
 use Rattle.opcodes.specs.declared.Decoded.{Decoded}
 use Rattle.opcodes.specs.declared.Decoded.TheVariants as decoded
 use Rattle.opcodes.specs.declared.Encoded.{Encoded}
@@ -26,20 +21,14 @@ use Rattle.machine.specs.declared.Machine.{Machine}
 use Rattle.machine.specs.declared.Pins.{Pins}
 use Rattle.machine.proofs.Legal.{LegalPins, made_legal, default_legal, reset_legal, span_legal}
 use Rattle.deeds.proofs.Fits.{AllRead}
-use Rattle.machine.proofs.Program.{byte_inside}
-use Rattle.execute.specs.Execute.{fetch_of}
-use Rattle.execute.specs.ForCode.{is_whole}
-use Rattle.execute.specs.declared.Fetched.{Fetched}
-use Rattle.execute.specs.declared.Fetched.TheVariants as fetched
-use Rattle.execute.proofs.Reading.{three_whole}
+use Rattle.execute.specs.Execute.{code_at}
 use Rattle.saved.specs.Saved.{byte, machine_of, saved_of, first_of, length_refusal, refusal_of}
 use Rattle.saved.proofs.RoundTrip.{bytes_and_back, machine_and_back}
 use Rattle.step.specs.Step.{Progress, step_of}
 use Rattle.step.specs.Run.{budget_refusal, run_of}
 use Rattle.step.proofs.Theorems.{step_legal, run_legal}
-use Rattle.z8.specs.Calls.{Answer, Lent, LentSpan, Four, answer, lent_span, image_refusal, memory_refusal, unless_refused, decoded_from, decoded_into, encoded_into, left_by, make_of, make_default_of, reset_call_of, decode_call_of, encode_call_of, step_call_of, run_call_of, span_call_of}
+use Rattle.z8.specs.Calls.{Answer, Lent, LentSpan, Four, answer, lent_span, image_refusal, memory_refusal, unless_refused, decoded_into, encoded_into, left_by, make_of, make_default_of, reset_call_of, decode_call_of, encode_call_of, step_call_of, run_call_of, span_call_of}
 use Rattle.z8.proofs.Refusals.{is_refused, is_done}
-use Rattle.z8.proofs.Ways.{past_decoded}
 
 -- ---- "Show that any two results allowed are equal": a contract is `answer n left ≡ x`, x made of all that was given.
 one_answer : {A : Type 0} (x : Answer A) (n n' : ℕ) (left left' : A) → answer n left ≡ x → answer n' left' ≡ x → (n ≡ n') × (left ≡ left')
@@ -127,8 +116,9 @@ decoded_untouched given (decoded.Refused n) refused = refl
 pub decode_untouched : (image : List ℕ) (at : ℕ) (given : Four) → ((decode_call_of image at given).number ≡ 0 → ⊥) → (decode_call_of image at given).left ≡ given
 unfolding decode_call_of
 decode_untouched image at given =
+    let i = code_at image at in
     by_test (λ (a : Answer Four). (a.number ≡ 0 → ⊥) → a.left ≡ given) (eqb (image_refusal image) 0)
-    (λ t. decoded_untouched given (decoded_from (fetch_of image at)))
+    (λ t. decoded_untouched given (decode_of i.op i.first i.second))
     (λ t refused. refl)
 
 encoded_untouched : (given : Four) (e : Encoded) → ((encoded_into given e).number ≡ 0 → ⊥) → (encoded_into given e).left ≡ given
@@ -146,44 +136,12 @@ pub run_untouched : (p : Pins) (image : List ℕ) (budget : ℕ) (given : Lent) 
 unfolding run_call_of
 run_untouched p image budget given n e d = sym (is_refused _ given _ n e d)
 
--- A run admitted leaves what its steps left, whether it stopped at 5 or 11 or not.
+-- A run admitted leaves what its steps left, whether it stopped at 5 or not.
 pub run_keeps : (p : Pins) (image : List ℕ) (budget : ℕ) (given : Lent)
     → first_of (refusal_of given.saved ∷ image_refusal image ∷ memory_refusal given.memory ∷ budget_refusal budget ∷ []) ≡ 0
     → run_call_of p image budget given ≡ answer (run_of p image given.memory (machine_of given.saved) budget).refusal (left_by (run_of p image given.memory (machine_of given.saved) budget))
 unfolding run_call_of
 run_keeps p image budget given e = sym (is_done _ given _ e)
-
--- ---- Decoding is refused with 11 exactly where a byte of the instruction is past the image, and never in one of 65,536 bytes.
-decoded_with_11 : (given : Four) (f : Fetched) → (decoded_into given (decoded_from f)).number ≡ refused_past → is_whole f ≡ false
-unfolding decode_of
-decoded_with_11 given fetched.Past e = refl
-decoded_with_11 given (fetched.Bytes i) e = go (entry_of i.op) e
-  where
-    go : (x : Entry) → (decoded_into given (decoded_as x i.op i.first i.second)).number ≡ refused_past → true ≡ false
-    go Blank e = absurd (omega (arith, e))
-    go (Of k) e = absurd (omega (arith, e))
-
-pub decode_11_is_past : (image : List ℕ) (at : ℕ) (given : Four) → (decode_call_of image at given).number ≡ refused_past → is_whole (fetch_of image at) ≡ false
-unfolding decode_call_of
-decode_11_is_past image at given =
-    by_test (λ (a : Answer Four). a.number ≡ refused_past → is_whole (fetch_of image at) ≡ false) (eqb (image_refusal image) 0)
-    (λ t. decoded_with_11 given (fetch_of image at))
-    (λ t e. absurd (image_not_11 e))
-  where
-    image_not_11 : image_refusal image ≡ refused_past → ⊥
-    image_not_11 = by_test (λ n. n ≡ refused_past → ⊥) (ltb image_most (length image)) (λ t e. omega (arith, e)) (λ t e. omega (arith, e))
-
-pub decode_past_is_11 : (image : List ℕ) (at : ℕ) (given : Four) → image_refusal image ≡ 0 → is_whole (fetch_of image at) ≡ false
-    → decode_call_of image at given ≡ answer refused_past given
-unfolding decode_call_of
-decode_past_is_11 image at given z w = rw (z, ← past_decoded image at w)
-
-pub whole_image_decodes_never_11 : (image : List ℕ) (at : ℕ) (given : Four) → length image ≡ 65536 → at < 65536 → (decode_call_of image at given).number ≡ refused_past → ⊥
-whole_image_decodes_never_11 image at given whole low e =
-    let all : is_whole (fetch_of image at) ≡ true =
-    three_whole image at _ _ _ (byte_inside image at (omega (arith, whole, low))) (byte_inside image (plus at 1) (omega (arith, whole)))
-    (byte_inside image (plus at 2) (omega (arith, whole))) in
-    subst T (sym all ∙ decode_11_is_past image at given e) tt
 
 -- ---- A legal machine is left legal, whatever the answer; and a new machine is.
 saves_legal : {m : Machine} → Legal m → refusal_of (saved_of m) ≡ 0

@@ -1,24 +1,13 @@
--- A step, a run and a span of a loaded machine, as what is left behind; and what was fetched, decoded.
-use mathlib.Core.Path.{◌≡◌, refl, ◌∙◌, ap, sym, subst}
-use mathlib.Core.Bool.{true, false}
+-- A step, a run and a span of a loaded machine, as what is left behind.
+use mathlib.Core.Path.{◌≡◌, ◌∙◌, ap}
 use mathlib.Core.List.{List}
 use Prim.Native.Nat.{ℕ}
-use lib.Dec.{T}
-use Rattle.numbers.specs.Numbers.{refused_past}
-use Rattle.opcodes.specs.Instruction.{decode_of}
-use Rattle.opcodes.specs.declared.Decoded.TheVariants as decoded
 use Rattle.machine.specs.Clock.{Ran}
 use Rattle.machine.specs.Legal.{Legal}
 use Rattle.machine.specs.declared.Machine.{Machine}
 use Rattle.machine.specs.declared.Pins.{Pins}
 use Rattle.machine.proofs.Legal.{LegalPins}
 use Rattle.deeds.proofs.Fits.{AllRead}
-use Rattle.execute.specs.Execute.{fetch_of}
-use Rattle.execute.specs.ForCode.{is_whole, code_at}
-use Rattle.execute.specs.declared.Fetched.{Fetched}
-use Rattle.execute.specs.declared.Fetched.TheVariants as fetched
-use Rattle.execute.proofs.Own.{own_decoded}
-use Rattle.execute.proofs.Reading.{whole_fetched}
 use Rattle.saved.specs.Saved.{machine_of, saved_of}
 use Rattle.step.specs.Step.{Progress, step_of}
 use Rattle.step.specs.Run.{budget_refusal}
@@ -26,7 +15,7 @@ use Rattle.step.specs.declared.Progress as stepped
 use Rattle.step.specs.declared.Ran as passed
 use Rattle.step.proofs.Theorems.{refused_step}
 use Rattle.saved.specs.declared.Loaded.{Loaded}
-use Rattle.z8.specs.Calls.{Lent, answer, lent, lent_span, decoded_from, left_by, step_call_of, run_call_of}
+use Rattle.z8.specs.Calls.{Lent, answer, lent, lent_span, left_by, step_call_of, run_call_of}
 use Rattle.z8.proofs.Refusals.{is_refused, not_admitted}
 use Rattle.saved.specs.ForCode.{load_of}
 use Rattle.step.specs.ForCode.{progress_of, ran_by}
@@ -60,15 +49,3 @@ module _ (p : Pins) (image : List ℕ) (l : Lent) (r : Loaded) (e : r ≡ load_o
   pub no_run : (budget : ℕ) → answer n l ≡ run_call_of p image budget l
   unfolding run_call_of
   no_run budget = is_refused _ _ _ _ (not_admitted l.saved r e image l.memory n a (budget_refusal budget) d) d
-
--- what is all there decodes as fetched, whatever bytes came along; and what isn't is refused
-pub whole_decoded : (image : List ℕ) (at : ℕ) → is_whole (fetch_of image at) ≡ true
-    → decode_of (code_at image at).op (code_at image at).first (code_at image at).second ≡ decoded_from (fetch_of image at)
-whole_decoded image at w = sym (own_decoded (code_at image at)) ∙ ap decoded_from (sym (whole_fetched image at w))
-
-pub past_decoded : (image : List ℕ) (at : ℕ) → is_whole (fetch_of image at) ≡ false → decoded.Refused refused_past ≡ decoded_from (fetch_of image at)
-past_decoded image at = go (fetch_of image at)
-  where
-    go : (f : Fetched) → is_whole f ≡ false → decoded.Refused refused_past ≡ decoded_from f
-    go fetched.Past w = refl
-    go (fetched.Bytes i) w = absurd (subst T w tt)

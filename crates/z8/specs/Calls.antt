@@ -1,7 +1,7 @@
 -- What each call of the C library answers and leaves (01 "Numbers the encoder sees"): of all it was given, all that the caller can see
 -- afterwards.
 use Rattle.std.specs.Prelude.{List, [], ◌∷◌, ℕ, eqb, ltb, length}
-use Rattle.numbers.specs.Numbers.{refused_image, refused_data, refused_past, image_most, data_most}
+use Rattle.numbers.specs.Numbers.{refused_image, refused_data, image_most, data_most}
 use Rattle.word.specs.Choose.{pick}
 use Rattle.opcodes.specs.Instruction.{decode_of, encode_of}
 use Rattle.opcodes.specs.declared.Decoded.{Decoded}
@@ -11,9 +11,7 @@ use Rattle.opcodes.specs.declared.Encoded.TheVariants as encoded
 use Rattle.machine.specs.Clock.{span_of}
 use Rattle.machine.specs.Start.{made_of, default_of, reset_of}
 use Rattle.machine.specs.declared.Pins.{Pins}
-use Rattle.execute.specs.Execute.{fetch_of}
-use Rattle.execute.specs.declared.Fetched.{Fetched}
-use Rattle.execute.specs.declared.Fetched.TheVariants as fetched
+use Rattle.execute.specs.Execute.{code_at}
 use Rattle.saved.specs.Saved.{machine_of, saved_of, first_of, length_refusal, refusal_of}
 use Rattle.step.specs.Step.{Progress, step_of}
 use Rattle.step.specs.Run.{budget_refusal, run_of}
@@ -97,18 +95,17 @@ make_default_of saved = unless_refused (length_refusal saved) saved (saved_of de
 unfoldable pub reset_call_of : List ℕ → Answer (List ℕ)
 reset_call_of saved = unless_refused (refusal_of saved) saved (saved_of (reset_of (machine_of saved)))
 
--- decoding: 1, then 11 or 5 by the order in which bytes are read (02, C-17). What stands at the address is decoded if the image isn't refused.
-abbrev pub decoded_from : Fetched → Decoded
-decoded_from fetched.Past = decoded.Refused refused_past
-decoded_from (fetched.Bytes i) = decode_of i.op i.first i.second
-
+-- decoding: 1, 5. What stands at the address is decoded if the image isn't refused.
 abbrev pub decoded_into : Four → Decoded → Answer Four
 decoded_into given (decoded.Instruction op first second size) = answer 0 (four op first second size)
 decoded_into given (decoded.Refused n) = answer n given
 
 unfoldable pub decode_call_of : List ℕ → ℕ → Four → Answer Four
 decode_call_of image at given =
-    pick (eqb (image_refusal image) 0) (decoded_into given (decoded_from (fetch_of image at))) (answer (image_refusal image) given)
+    let i = code_at image at in
+    pick (eqb (image_refusal image) 0)
+    (decoded_into given (decode_of i.op i.first i.second))
+    (answer (image_refusal image) given)
 
 -- encoding: 8
 abbrev pub encoded_into : Four → Encoded → Answer Four
@@ -122,14 +119,13 @@ encode_call_of op first second given = encoded_into given (encode_of op first se
 abbrev pub left_by : Progress → Lent
 left_by s = lent (saved_of s.machine) s.memory s.cycles s.ends0 s.ends1
 
--- a step: 7, 6, 1, 2, then 5 or 11
+-- a step: 7, 6, 1, 2, 5
 unfoldable pub step_call_of : Pins → List ℕ → Lent → Answer Lent
 step_call_of pins image l =
     let s = step_of pins image l.memory (machine_of l.saved) in
     unless_refused (first_of (refusal_of l.saved ∷ image_refusal image ∷ memory_refusal l.memory ∷ s.refusal ∷ [])) l (left_by s)
 
--- a run: 7, 6, 1, 2, 4 with nothing changed. "5 [..] Run: state, memory, cycles and ends as after the steps done before", and "a run stops as for 5"
--- at 11 (02, C-17)
+-- a run: 7, 6, 1, 2, 4 with nothing changed. "5 [..] Run: state, memory, cycles and ends as after the steps done before"
 unfoldable pub run_call_of : Pins → List ℕ → ℕ → Lent → Answer Lent
 run_call_of pins image budget l =
     let refusal = first_of (refusal_of l.saved ∷ image_refusal image ∷ memory_refusal l.memory ∷ budget_refusal budget ∷ []) in

@@ -76,7 +76,7 @@ pub extern "C" fn z8_reset(saved: &mut [u8]) -> u32
     DONE
 }
 
-// The instruction at an address of the image: 1, then 11 or 5.
+// The instruction at an address of the image: 1, 5.
 #[unsafe(no_mangle)]
 pub extern "C" fn z8_decode(
     image: &[u8],
@@ -91,10 +91,6 @@ pub extern "C" fn z8_decode(
     let refusal = image_refusal(image);
     if refusal != numbers::DONE {
         return refusal as u32;
-    }
-    let whole = execute::is_whole(image, at);
-    if !whole {
-        return numbers::REFUSED_PAST as u32;
     }
     let i = execute::fetch(image, at);
     let d = opcodes::instruction::decode(i.op, i.first, i.second);
@@ -172,7 +168,7 @@ fn admitted(saved: u8, image: &[u8], memory: &[u8]) -> u8
     memory_refusal(memory)
 }
 
-// One step: 7, 6, 1, 2, then 5 or 11. With these `step` has left the memory as it was.
+// One step: 7, 6, 1, 2, 5. With 5 `step` has left the memory as it was.
 #[unsafe(no_mangle)]
 pub extern "C" fn z8_step(
     saved: &mut [u8],
@@ -212,7 +208,7 @@ pub extern "C" fn z8_step(
     DONE
 }
 
-// The bounded run: 7, 6, 1, 2, 4; and 5 or 11, with what was done before.
+// The bounded run: 7, 6, 1, 2, 4; and 5, with what was done before.
 #[unsafe(no_mangle)]
 pub extern "C" fn z8_run(
     saved: &mut [u8],

@@ -1,13 +1,12 @@
 use borrow.Author.Rules.{rules}
 use Rattle.singles.proofs.singles.Statement.{statement}
 use Rattle.singles.proofs.singles.Tie as tie
-use mathlib.Core.Path.{◌≡◌, sym, ◌∙◌}
 use Prim.Native.Nat.{◌<◌}
 use Rattle.opcodes.specs.Map.{entry_of, opcode_map}
 use Rattle.machine.specs.declared.Machine.{Machine}
 use Rattle.lent.specs.View.{machine_in}
 use Rattle.operands.proofs.Arms.{blank_is_refused}
-use Rattle.singles.proofs.Arms.{Ready, lde_in, ldei_in, lde_out, ldei_out, ldc_in, ldci_in, ldc_past, ldci_past, ld_from_index, ldc_out, ldci_out, ld_to_index, ld_ind_work, ld_ind_reg, call_direct_arm, call_pair_arm, single_blank}
+use Rattle.singles.proofs.Arms.{Ready, lde_in, ldei_in, lde_out, ldei_out, ldc_in, ldci_in, ld_from_index, ldc_out, ldci_out, ld_to_index, ld_ind_work, ld_ind_reg, call_direct_arm, call_pair_arm, single_blank}
 
 -- before the match: the start, and what the three reads gave
 module _ (s : tie.After-read-pair) where
@@ -74,32 +73,14 @@ count-up-requires c κs = search rules
 program-requires : tie.Need-program-requires
 program-requires c κs = search rules
 
-enum_told : tie.Need-enum-told
-enum_told c = search rules
-
-refused-requires : tie.Need-refused-requires
-refused-requires c κs = search rules
-
-enum-known-there : tie.Need-enum-known-there
-enum-known-there c = search rules
-
 write-requires-2 : tie.Need-write-requires-2
 write-requires-2 c κs = search rules
 
-program-requires-2 : tie.Need-program-requires-2
-program-requires-2 c κs = search rules
-
-enum-told-2 : tie.Need-enum-told-2
-enum-told-2 c = search rules
-
-refused-requires-2 : tie.Need-refused-requires-2
-refused-requires-2 c κs = search rules
-
-enum-known-there-2 : tie.Need-enum-known-there-2
-enum-known-there-2 c = search rules
-
 read-requires-5 : tie.Need-read-requires-5
 read-requires-5 c κs = search rules
+
+program-requires-2 : tie.Need-program-requires-2
+program-requires-2 c κs = search rules
 
 block-requires-2 : tie.Need-block-requires-2
 block-requires-2 c κs = search rules
@@ -167,8 +148,8 @@ indirect-requires c κs = search rules
 write-requires-6 : tie.Need-write-requires-6
 write-requires-6 c κs = search rules
 
-refused-requires-3 : tie.Need-refused-requires-3
-refused-requires-3 c κs = search rules
+refused-requires : tie.Need-refused-requires
+refused-requires c κs = search rules
 
 same_length : tie.Need-same-length
 same_length c = search rules
@@ -212,55 +193,39 @@ returns-4 c =
 
 returns-5 : tie.Need-returns-5
 returns-5 c =
-    let asked : tie.After-program = c.before.before.before.before.before in
-    let arm : tie.At-match-keys5 = asked.before in
-    rw (c.refused.ensures.0, c.refused.ensures.1)
-    (ldc_past _ _ (ready arm.before) (sym asked.program.ensures ∙ c.before.before.before.enum_told.given.1) arm.match.keys5)
+    let fetched : tie.After-program = c.before.before.before in
+    let arm : tie.At-match-keys5 = fetched.before in
+    rw (c.write2.ensures, fetched.program.ensures) (ldc_in _ _ (ready arm.before) arm.match.keys5)
 
 returns-6 : tie.Need-returns-6
 returns-6 c =
-    let byte : tie.After-there = c.before.before.before.before in
-    let asked : tie.After-program = byte.before.before in
-    let arm : tie.At-match-keys5 = asked.before in
-    rw c.write2.ensures (ldc_in _ _ (ready arm.before) _ (sym asked.program.ensures ∙ byte.there.given.1) arm.match.keys5)
+    let fetched : tie.After-program2 = c.before.before.before in
+    let to : tie.After-read5 = fetched.before in
+    let arm : tie.At-match-keys6 = to.before.before.before in
+    rw (c.block2.ensures, fetched.program2.ensures, to.read5.ensures) (ldci_in _ _ (ready arm.before) arm.match.keys6)
 
 returns-7 : tie.Need-returns-7
 returns-7 c =
-    let asked : tie.After-program2 = c.before.before.before.before.before in
-    let arm : tie.At-match-keys6 = asked.before in
-    rw (c.refused2.ensures.0, c.refused2.ensures.1)
-    (ldci_past _ _ (ready arm.before) (sym asked.program2.ensures ∙ c.before.before.before.enum-told2.given.1) arm.match.keys6)
-
-returns-8 : tie.Need-returns-8
-returns-8 c =
-    let to : tie.After-read5 = c.before.before.before in
-    let byte : tie.After-there2 = to.before.before.before.before in
-    let asked : tie.After-program2 = byte.before.before in
-    let arm : tie.At-match-keys6 = asked.before in
-    rw (c.block2.ensures, to.read5.ensures) (ldci_in _ _ (ready arm.before) _ (sym asked.program2.ensures ∙ byte.there2.given.1) arm.match.keys6)
-
-returns-9 : tie.Need-returns-9
-returns-9 c =
     let value : tie.After-read6 = c.before.before.before in
     let from : tie.After-indexed = value.before.before.before in
     let arm : tie.At-match-keys7 = from.before.before.before.before in
     rw (c.write3.ensures, value.read6.ensures, from.indexed.ensures) (ld_from_index _ _ (ready arm.before) arm.match.keys7)
 
-returns-10 : tie.Need-returns-10
-returns-10 c =
+returns-8 : tie.Need-returns-8
+returns-8 c =
     let read : tie.After-read-pair = c.before in
     ldc_out _ _ (ready read) c.match.keys8
 
-returns-11 : tie.Need-returns-11
-returns-11 c =
+returns-9 : tie.Need-returns-9
+returns-9 c =
     let arm : tie.At-match-keys9 = c.before.before.before in
     rw c.count-up2.ensures (ldci_out _ _ (ready arm.before) arm.match.keys9)
 
 same-length-5 : tie.Need-same-length-5
 same-length-5 c = search rules
 
-returns-12 : tie.Need-returns-12
-returns-12 c =
+returns-10 : tie.Need-returns-10
+returns-10 c =
     let called : tie.After-call = c.before.before in
     let to : tie.After-read-pair2 = called.before.before.before.before in
     let address : tie.After-register = to.before.before.before in
@@ -274,41 +239,41 @@ returns-12 c =
 same-length-6 : tie.Need-same-length-6
 same-length-6 c = search rules
 
-returns-13 : tie.Need-returns-13
-returns-13 c =
+returns-11 : tie.Need-returns-11
+returns-11 c =
     let called : tie.After-call2 = c.before.before in
     let to : tie.After-word = called.before.before.before.before in
     let arm : tie.At-match-keys11 = to.before in
     call_direct_arm _ _ (ready arm.before) arm.match.keys11 _ (rw to.word.ensures at called.call2.ensures)
 
-returns-14 : tie.Need-returns-14
-returns-14 c =
+returns-12 : tie.Need-returns-12
+returns-12 c =
     let value : tie.After-read7 = c.before.before.before in
     let to : tie.After-indexed2 = value.before.before.before in
     let arm : tie.At-match-keys12 = to.before.before.before.before in
     rw (c.write4.ensures, value.read7.ensures, to.indexed2.ensures) (ld_to_index _ _ (ready arm.before) arm.match.keys12)
 
-returns-15 : tie.Need-returns-15
-returns-15 c =
+returns-13 : tie.Need-returns-13
+returns-13 c =
     let value : tie.After-read9 = c.before.before.before in
     let to : tie.After-read8 = value.before.before.before in
     let arm : tie.At-match-keys13 = to.before.before.before in
     rw (c.write5.ensures, value.read9.ensures, to.read8.ensures) (ld_ind_work _ _ (ready arm.before) arm.match.keys13)
 
-returns-16 : tie.Need-returns-16
-returns-16 c =
+returns-14 : tie.Need-returns-14
+returns-14 c =
     let to : tie.After-indirect = c.before.before.before in
     let value : tie.After-read10 = to.before.before.before in
     let from : tie.After-register2 = value.before.before.before in
     let arm : tie.At-match-keys14 = from.before.before.before in
     rw (c.write6.ensures, to.indirect.ensures, value.read10.ensures, from.register2.ensures) (ld_ind_reg _ _ (ready arm.before) arm.match.keys14)
 
-returns-17 : tie.Need-returns-17
+returns-15 : tie.Need-returns-15
 unfolding entry_of opcode_map
-returns-17 c =
+returns-15 c =
     let blank : tie.At-match-rest = c.before.before.before in
     let begun = start blank.before in
-    rw (c.refused3.ensures.0, c.refused3.ensures.1)
+    rw (c.refused.ensures.0, c.refused.ensures.1)
     (blank_is_refused _ _ _ _ _ _ (single_blank begun.args.i.op (op-below begun) begun.pre.low begun.pre.high begun.pre.row blank.match.rest))
 
 pub singles-spec : {M : Type 1} → statement M
@@ -330,15 +295,9 @@ singles-spec =
     store-requires-2
     count-up-requires
     program-requires
-    enum_told
-    refused-requires
-    enum-known-there
     write-requires-2
-    program-requires-2
-    enum-told-2
-    refused-requires-2
-    enum-known-there-2
     read-requires-5
+    program-requires-2
     block-requires-2
     indexed-requires
     read-requires-6
@@ -361,7 +320,7 @@ singles-spec =
     read-requires-10
     indirect-requires
     write-requires-6
-    refused-requires-3
+    refused-requires
     same_length
     returns
     same-length-2
@@ -375,13 +334,11 @@ singles-spec =
     returns-7
     returns-8
     returns-9
-    returns-10
-    returns-11
     same-length-5
-    returns-12
+    returns-10
     same-length-6
+    returns-11
+    returns-12
     returns-13
     returns-14
-    returns-15
-    returns-16
-    returns-17)
+    returns-15)

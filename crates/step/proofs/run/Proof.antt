@@ -5,8 +5,8 @@ use Rattle.numbers.specs.Numbers.{budget_most}
 use Rattle.step.specs.Run.{run_of}
 use mathlib.Core.Path.{◌≡◌}
 use mathlib.Core.Bool.{true, false}
-use lib.Dec.{eqb, ltb}
-use borrow.Author.Tests.{lt-ltb, le-ltb, eq-eqb, ne_eqb}
+use lib.Dec.{ltb}
+use borrow.Author.Tests.{lt-ltb, le-ltb}
 
 returns : tie.Need-returns
 unfolding run_of
@@ -18,10 +18,12 @@ lend-requires c κs = search rules
 steps-requires : tie.Need-steps-requires
 steps-requires c κs = (rw c.before.before.before.lend.ensures c.before.before.before.before.before.before.before.before.requires, c.before.before.before.before.before.if1.false)
 
+machine-of-requires : tie.Need-machine-of-requires
+machine-of-requires c κs = search rules
+
 same_length : tie.Need-same-length
 same_length c = search rules
 
--- no step was taken
 returns-2 : tie.Need-returns-2
 unfolding run_of
 returns-2 c =
@@ -30,35 +32,9 @@ returns-2 c =
     let few : tie.Else1 = lent.before.before in
     let st : tie.Start = few.before.before.before in
     let within : ltb budget_most st.args.budget ≡ false = le-ltb budget_most st.args.budget few.if1.false in
-    let none : eqb done.steps.result.cycles 0 ≡ true = eq-eqb done.steps.result.cycles 0 c.if2.true in
-    rw within (rw (none, lent.lend.ensures) at done.steps.ensures)
-
-machine-of-requires : tie.Need-machine-of-requires
-machine-of-requires c κs = search rules
-
-same-length-2 : tie.Need-same-length-2
-same-length-2 c = search rules
-
-returns-3 : tie.Need-returns-3
-unfolding run_of
-returns-3 c =
-    let done : tie.After-steps = c.before.before.before.before.before.before in
-    let lent : tie.After-lend = done.before.before.before.before in
-    let few : tie.Else1 = lent.before.before in
-    let st : tie.Start = few.before.before.before in
-    let within : ltb budget_most st.args.budget ≡ false = le-ltb budget_most st.args.budget few.if1.false in
-    let some : eqb done.steps.result.cycles 0 ≡ false = ne_eqb done.steps.result.cycles 0 c.before.before.if2.false in
-    rw within (rw (some, lent.lend.ensures, ← c.machine-of.ensures) at done.steps.ensures)
+    rw (within) (rw (lent.lend.ensures, ← c.machine-of.ensures) at done.steps.ensures)
 
 pub run_spec : {M : Type 1} → statement M
 run_spec =
     tie.close
-    (tie.spec
-    returns
-    lend-requires
-    steps-requires
-    same_length
-    returns-2
-    machine-of-requires
-    same-length-2
-    returns-3)
+    (tie.spec returns lend-requires steps-requires machine-of-requires same_length returns-2)

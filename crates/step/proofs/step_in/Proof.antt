@@ -11,6 +11,7 @@ use Rattle.machine.specs.declared.Machine.{Machine}
 use Rattle.lent.specs.View.{machine_in}
 use Rattle.deeds.proofs.Fits.{AllRead}
 use Rattle.execute.specs.ForCode.{Performed}
+use Rattle.interrupts.specs.Grants.{grant_of}
 use Rattle.step.proofs.Good.{granted_sound}
 use Rattle.step.proofs.Acts.{read_any, step_refused, step_taken}
 
@@ -38,16 +39,12 @@ act-requires c κs = search rules
 same_length : tie.Need-same-length
 same_length c = search rules
 
-why-requires : tie.Need-why-requires
-why-requires c κs = search rules
-
 returns : tie.Need-returns
 returns c =
-    let refused : tie.Then1 = c.before.before.before in
-    let acted : tie.After-act = refused.before.before.before in
+    let acted : tie.After-act = c.before.before.before in
     let shared : tie.After-shared-slice-known = acted.before.before.before.before.before in
     let st : tie.Start = shared.before in
-    step_refused st.args.pins (image st) (memory st) (given st) st.requires.0 (image-read shared) st.requires.1 _ acted.act.ensures _ refused.if1.true c.why.ensures
+    step_refused st.args.pins (image st) (memory st) (given st) st.requires.0 st.requires.1 (image-read shared) _ acted.act.ensures c.if1.true
 
 span-requires : tie.Need-span-requires
 span-requires c κs =
@@ -56,7 +53,8 @@ span-requires c κs =
     let shared : tie.After-shared-slice-known = bytes.before in
     let st : tie.Start = shared.before in
     let lp = pins-legal st in
-    let sound = granted_sound st.args.pins (image st) (memory st) (given st) st.requires.0 lp (image-read shared) (memory-read bytes) in
+    let grant = grant_of (given st) in
+    let sound = granted_sound st.args.pins (image st) (memory st) (given st) grant st.requires.0 lp (image-read shared) (memory-read bytes) in
     subst Legal (sym (ap (λ (x : Performed). x.machine) acted.act.ensures)) sound.legal
 
 same-length-2 : tie.Need-same-length-2
@@ -68,8 +66,8 @@ returns-2 c =
     let acted : tie.After-act = done.before.before.before in
     let shared : tie.After-shared-slice-known = acted.before.before.before.before.before in
     let st : tie.Start = shared.before in
-    step_taken st.args.pins (image st) (memory st) (given st) st.requires.0 (image-read shared) st.requires.1 _ acted.act.ensures _ done.if1.false c.span.ensures
+    step_taken st.args.pins (image st) (memory st) (given st) st.requires.0 st.requires.1 (image-read shared) _ acted.act.ensures _ done.if1.false c.span.ensures
 
 pub step-in-spec : {M : Type 1} → statement M
 step-in-spec =
-    tie.close (tie.spec act-requires why-requires same_length returns span-requires same-length-2 returns-2)
+    tie.close (tie.spec act-requires same_length returns span-requires same-length-2 returns-2)

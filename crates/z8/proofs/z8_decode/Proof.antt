@@ -1,38 +1,19 @@
 use borrow.Author.Rules.{rules}
 use Rattle.z8.proofs.z8_decode.Statement.{statement}
 use Rattle.z8.proofs.z8_decode.Tie as tie
-use mathlib.Core.Path.{◌≡◌, sym, ◌∙◌}
+use mathlib.Core.Path.{◌≡◌}
 use mathlib.Core.Bool.{true, false}
-use borrow.Author.Tests.{eq-eqb, ne_eqb, not-true, not-false}
+use borrow.Author.Tests.{eq-eqb, ne_eqb}
 use lib.Dec.{eqb}
-use Rattle.opcodes.specs.declared.Decoded.{Decoded}
-use Rattle.execute.specs.Execute.{fetch_of}
-use Rattle.z8.specs.Calls.{decoded_from, decode_call_of}
-use Rattle.z8.proofs.Ways.{whole_decoded, past_decoded}
+use Rattle.z8.specs.Calls.{decode_call_of}
 
--- the image is taken, and asked for the instruction
-module _ (asked : tie.After-is-whole) where
+-- the image is taken, and three of its bytes are read
+module _ (read : tie.After-fetch) where
   abbrev of_image : tie.After-image-refusal
-  of_image = asked.before.before
-
-  abbrev start : tie.Start
-  start = of_image.before.before
+  of_image = read.before.before
 
   taken : eqb of_image.image-refusal.result 0 ≡ true
-  taken = eq-eqb _ _ asked.before.if1.left
-
-  abbrev decodedThere : Decoded
-  decodedThere = decoded_from (fetch_of start.args.image.now start.args.at)
-
--- it is all there, and decoded
-module _ (done : tie.After-decode) where
-  abbrev whole : tie.After-is-whole
-  whole = done.before.before.before
-
-  decodes : done.decode.result ≡ decodedThere whole
-  decodes =
-      rw done.before.fetch.ensures at done.decode.ensures
-      ∙ whole_decoded _ _ (sym whole.is_whole.ensures ∙ not-false _ done.before.before.if2.left)
+  taken = eq-eqb _ _ read.before.if1.left
 
 image-refusal-requires : tie.Need-image-refusal-requires
 image-refusal-requires c κs = search rules
@@ -47,18 +28,6 @@ returns c =
     let refused : eqb of_image.image-refusal.result 0 ≡ false = ne_eqb _ _ c.if1.true in
     rw (← of_image.image-refusal.ensures, refused)
 
-is-whole-requires : tie.Need-is-whole-requires
-is-whole-requires c κs = search rules
-
-cast-result-2 : tie.Need-overflow-cast-result-2
-cast-result-2 c = search rules
-
-returns-2 : tie.Need-returns-2
-unfolding decode_call_of
-returns-2 c =
-    let asked : tie.After-is-whole = c.before in
-    rw (← (of_image asked).image-refusal.ensures, taken asked, ← past_decoded _ _ (sym asked.is_whole.ensures ∙ not-true _ c.if2.true))
-
 fetch-requires : tie.Need-fetch-requires
 fetch-requires c κs = search rules
 
@@ -68,23 +37,25 @@ decode-requires c κs = search rules
 enum-known-d : tie.Need-enum-known-d
 enum-known-d c = search rules
 
-cast-result-3 : tie.Need-overflow-cast-result-3
-cast-result-3 c = search rules
+cast-result-2 : tie.Need-overflow-cast-result-2
+cast-result-2 c = search rules
 
 enum-known-d-2 : tie.Need-enum-known-d-2
 enum-known-d-2 c = search rules
 
+returns-2 : tie.Need-returns-2
+unfolding decode_call_of
+returns-2 c =
+    let read : tie.After-fetch = c.before.before.before.before in
+    let decoded = c.before.before.before.decode.ensures in
+    rw (← (of_image read).image-refusal.ensures, taken read, ← read.fetch.ensures, ← decoded, c.before.d.given.1)
+
 returns-3 : tie.Need-returns-3
 unfolding decode_call_of
 returns-3 c =
-    let done : tie.After-decode = c.before.before.before in
-    rw (← (of_image (whole done)).image-refusal.ensures, taken (whole done), ← decodes done, c.before.d.given.1)
-
-returns-4 : tie.Need-returns-4
-unfolding decode_call_of
-returns-4 c =
-    let done : tie.After-decode = c.before.before.before in
-    rw (← (of_image (whole done)).image-refusal.ensures, taken (whole done), ← decodes done, c.before.d2.given.1)
+    let read : tie.After-fetch = c.before.before.before.before in
+    let decoded = c.before.before.before.decode.ensures in
+    rw (← (of_image read).image-refusal.ensures, taken read, ← read.fetch.ensures, ← decoded, c.before.d2.given.1)
 
 pub z8-decode-spec : {M : Type 1} → statement M
 z8-decode-spec =
@@ -93,13 +64,10 @@ z8-decode-spec =
     image-refusal-requires
     cast-result
     returns
-    is-whole-requires
-    cast-result-2
-    returns-2
     fetch-requires
     decode-requires
     enum-known-d
-    cast-result-3
+    cast-result-2
     enum-known-d-2
-    returns-3
-    returns-4)
+    returns-2
+    returns-3)

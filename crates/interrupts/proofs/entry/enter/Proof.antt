@@ -16,6 +16,9 @@ high-byte-requires c κs = search rules
 low-byte-requires : tie.Need-low-byte-requires
 low-byte-requires c κs = search rules
 
+vector-requires : tie.Need-vector-requires
+vector-requires c κs = search rules
+
 push-requires : tie.Need-push-requires
 push-requires c κs = search rules
 
@@ -45,12 +48,13 @@ returns c =
     let without : tie.After-cleared = acknowledged.before.before in
     let irq : tie.After-held = without.before in
     let pushed : tie.After-push = irq.before.before.before.before in
-    let low : tie.After-low-byte = pushed.before.before.before.before in
+    let to : tie.After-vector = pushed.before.before.before.before in
+    let low : tie.After-low-byte = to.before in
     let high : tie.After-high-byte = low.before in
     let flags : tie.After-flags = high.before in
     let was : tie.After-pc = flags.before.before.before in
     let left = rw (low.low_byte.ensures, high.high_byte.ensures, flags.flags.ensures, was.pc.ensures) at pushed.push.ensures in
-    rw (c.set-pc.ensures, off.interrupts.ensures, acknowledged.place.ensures, without.cleared.ensures, irq.held.ensures)
+    rw (c.set-pc.ensures, off.interrupts.ensures, acknowledged.place.ensures, without.cleared.ensures, irq.held.ensures, to.vector.ensures)
     (entered_is _ _ _ _ _ left)
 
 pub enter_spec : {M : Type 1} → statement M
@@ -61,6 +65,7 @@ enter_spec =
     flags-requires
     high-byte-requires
     low-byte-requires
+    vector-requires
     push-requires
     held-requires
     cleared-requires
