@@ -2,6 +2,8 @@
 // what becomes of the flags; `lay` puts the flags into the FLAGS byte that is in place once the destination is stored. The
 // flags that an operation reads are a parameter, `read`: the FLAGS byte from before anything was written. The two bytes
 // differ only where the destination is FLAGS itself.
+#![tactic(auto)]
+
 ghost use Rattle.std.specs.Prelude.{◌≡◌, ◌<◌};
 ghost use Rattle.alu.specs.FlagByte.{packed, laid, is_zero, carry_to, rcf_of, scf_of, ccf_of};
 
@@ -12,7 +14,7 @@ pub mod logical;
 pub mod rotate;
 
 // Which bits of FLAGS an operation affects, and which of these it sets.
-#[derive(Drop)]
+#[derive(Clone, Copy)]
 pub struct Flags {
     pub affected: u8,
     pub ones: u8,
@@ -34,21 +36,21 @@ impl Flags {
 }
 
 // A byte to store, and the flags.
-#[derive(Drop)]
+#[derive(Clone, Copy)]
 pub struct Outcome {
     pub value: u8,
     pub flags: Flags,
 }
 
 // A word to store, and the flags.
-#[derive(Drop)]
+#[derive(Clone, Copy)]
 pub struct WordOutcome {
     pub value: u16,
     pub flags: Flags,
 }
 
 // What DA makes of a byte: the outcome by a row of its page, or nothing at all.
-#[derive(Drop)]
+#[derive(Clone, Copy)]
 pub enum Adjusted {
     By(Outcome),
     NoRow,

@@ -1,4 +1,6 @@
 // The clock of a machine: what the timers and the serial port read and move of it, a write to TMR, and any number of cycles.
+#![tactic(auto)]
+
 ghost use Rattle.std.specs.Prelude.{◌≡◌};
 ghost use Rattle.machine.specs.Clock.{control_with, control_of, moving_of, enabling, counts_at, moved_to, write_tmr, span_of};
 ghost use Rattle.machine.specs.Serial.{port_mode};
@@ -12,7 +14,7 @@ use serial::Mode;
 use timers::{Control, Counting, Lines, Moving, RequestRegister, Timer};
 
 // Each timer's ends in some cycles.
-#[derive(Drop)]
+#[derive(Clone, Copy)]
 pub struct Ends {
     pub ends0: u32,
     pub ends1: u32,

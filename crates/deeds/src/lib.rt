@@ -1,9 +1,11 @@
 // What an instruction is to do, with everything read that it needs and nothing written yet: "Operand addresses and source values are taken
 // before anything is written, with RP as it stood" (01). The definitions in specs/ speak of these types; no code makes or takes one but `Code`.
+#![tactic(auto)]
+
 use alu::{Flags, Outcome, WordOutcome};
 
 // The opcode and the two bytes that follow it. Of these an instruction looks only at those that are its own.
-#[derive(Drop)]
+#[derive(Clone, Copy)]
 pub struct Code {
     pub op: u8,
     pub first: u8,
@@ -11,14 +13,14 @@ pub struct Code {
 }
 
 // Two operands: the destination's address and the source's value.
-#[derive(Drop)]
+#[derive(Clone, Copy)]
 pub struct Operands {
     pub dst: u8,
     pub src: u8,
 }
 
 // A byte moved without a look at flags: to no place, to a register, or to data memory.
-#[derive(Drop)]
+#[derive(Clone, Copy)]
 pub enum Transfer {
     Dropped,
     ToRegister(u8, u8),
@@ -26,7 +28,7 @@ pub enum Transfer {
 }
 
 // What an instruction is to do.
-#[derive(Drop)]
+#[derive(Clone, Copy)]
 pub enum Deed {
     Nothing,
     // no flags affected

@@ -1,5 +1,7 @@
 // 01's examples and edges, run: those that are proved are the list of the room `proved`. What this program writes has to be what
 // the independent program tests/reference/edges.c writes. (Image lengths are looked at by what C calls.)
+#![tactic(auto)]
+
 use libc::STDOUT_FILENO;
 use machine::{Machine, Pins, names};
 use step::Ran;

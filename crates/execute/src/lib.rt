@@ -1,5 +1,7 @@
 // One instruction: its bytes, and (`doing`) what several of them do alike. The rooms `operands`, `one_operand`, `two_operands`, `singles` and
 // `perform` do what is theirs of the opcode map.
+#![tactic(auto)]
+
 pub mod doing;
 
 ghost use Rattle.std.specs.Prelude.{◌≡◌};

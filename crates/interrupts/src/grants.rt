@@ -3,7 +3,7 @@ ghost use Rattle.std.specs.Prelude.{◌≡◌, [], ◌∷◌, ◌<◌};
 ghost use Rattle.interrupts.specs.Grants.{group_order, group_a, group_b, group_c, priorities, first_standing, granted};
 ghost use Rattle.interrupts.specs.ForCode.{standing_of, or_else};
 
-#[derive(Drop)]
+#[derive(Clone, Copy)]
 pub enum Grant {
     Nothing,
     Request(u8),

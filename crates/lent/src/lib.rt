@@ -1,6 +1,8 @@
 // The machine lent. A `Machine` goes by value at the edges; below `step` its register file is lent, and beside it its other numbers, the
 // rest, as places of their own: a call takes two addresses, a store is one instruction, and what doesn't move isn't carried about. `regs, rest`
 // in a call are the machine `machine_in file rest` (specs/View.antt), and every contract speaks of that.
+#![tactic(auto)]
+
 pub mod memory;
 
 ghost use Rattle.std.specs.Prelude.{◌≡◌, ◌<◌, length};

@@ -1,5 +1,7 @@
 // The machine: everything that a step reads and writes (01 "Memory and registers"; 004 chapters 3, 6 and 9). A `Machine` goes by value
 // at the edges; below them it is lent, in the room `lent`.
+#![tactic(auto)]
+
 pub mod file;
 pub mod memory;
 pub mod names;
@@ -15,7 +17,7 @@ pub type File = [u8; numbers::FILE_LENGTH];
 // 01's machine: the register file in address order, the program counter, the divider, both timers' counts in progress, the last Port 3
 // pins, the T_OUT level, the type (1 or 11) and the interrupt entry cost; C-13's mark, whether an EI has been executed since the last
 // reset; and C-11's serial port.
-#[derive(Drop)]
+#[derive(Clone, Copy)]
 pub struct Machine {
     pub regs: File,
     pub pc: u16,
@@ -31,7 +33,7 @@ pub struct Machine {
 }
 
 // A machine but for its register file: what the definitions put beside a file, and what the numbers are that `lent` lends.
-#[derive(Drop)]
+#[derive(Clone, Copy)]
 pub struct Core {
     pub pc: u16,
     pub divider: u32,
@@ -46,7 +48,7 @@ pub struct Core {
 }
 
 // The pins of ports 0 to 3, as given with a call. They are no part of the machine.
-#[derive(Drop)]
+#[derive(Clone, Copy)]
 pub struct Pins {
     pub port0: u8,
     pub port1: u8,
@@ -55,7 +57,7 @@ pub struct Pins {
 }
 
 // One to three bytes, in address order.
-#[derive(Drop)]
+#[derive(Clone, Copy)]
 pub enum Bytes {
     One(u8),
     Two(u8, u8),
@@ -63,7 +65,7 @@ pub enum Bytes {
 }
 
 // What is to be stored in data memory: nothing, or bytes upward from an address.
-#[derive(Drop)]
+#[derive(Clone, Copy)]
 pub enum Stores {
     Nothing,
     At(u16, Bytes),

@@ -6,7 +6,7 @@ ghost use Rattle.machine.specs.ForCode.{reach_of};
 use crate::{Bytes, Machine};
 
 // Three bytes of the program, in address order: as many as an instruction has at most.
-#[derive(Drop)]
+#[derive(Clone, Copy)]
 pub struct Triple {
     pub first: u8,
     pub second: u8,

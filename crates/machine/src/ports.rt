@@ -5,7 +5,7 @@ ghost use Rattle.machine.specs.Ports.{masked, port0_directions, port1_directions
 use crate::Pins;
 
 // Which bits of a port are inputs and which are address lines; the others are outputs.
-#[derive(Drop)]
+#[derive(Clone, Copy)]
 pub struct Directions {
     pub inputs: u8,
     pub address: u8,

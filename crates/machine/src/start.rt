@@ -7,7 +7,7 @@ use serial::Port;
 use timers::Timer;
 
 // A new machine; or a refusal's number, and then the standard machine, as the answer has to hold one.
-#[derive(Drop)]
+#[derive(Clone, Copy)]
 pub struct Made {
     pub refusal: u8,
     pub machine: Machine,

@@ -1,5 +1,6 @@
 // The numbers that a caller sees and every room shares (01 "Numbers the encoder sees"): refusals, lengths, limits. specs/Numbers.antt
 // has the same under the same names.
+#![tactic(auto)]
 
 // What is answered where nothing is refused, and 01's table of refusals.
 pub const DONE: u8 = 0;

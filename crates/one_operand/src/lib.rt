@@ -1,4 +1,6 @@
 // Columns 0 and 1 of the map: an instruction with one operand, R or IR; and JP IRR and SRP, which stand there too.
+#![tactic(auto)]
+
 ghost use Rattle.std.specs.Prelude.{◌≡◌};
 ghost use Rattle.lent.specs.View.{machine_in};
 ghost use Rattle.word.specs.Choose.{pick};

@@ -1,11 +1,13 @@
 // The opcode map: what each opcode is, and its length; decoding and encoding. Its cycles are a definition (specs/Cycles.antt): the code has
 // them where the kind is known, in the rooms of the rows.
+#![tactic(auto)]
+
 pub mod instruction;
 pub mod map;
 
 // The address mode of one operand: a working register named in the opcode (r), a register (R; of a word a pair, RR), an
 // indirect register (IR).
-#[derive(Drop)]
+#[derive(Clone, Copy)]
 pub enum One {
     Work,
     Reg,
@@ -13,7 +15,7 @@ pub enum One {
 }
 
 // The address modes of two operands, destination and source.
-#[derive(Drop)]
+#[derive(Clone, Copy)]
 pub enum Two {
     // r,r
     WorkWork,
@@ -44,21 +46,21 @@ pub enum Two {
 }
 
 // Between a register and a memory: into the register, or out of it.
-#[derive(Drop)]
+#[derive(Clone, Copy)]
 pub enum Way {
     In,
     Out,
 }
 
 // Where a jump or a call goes: to the address in the instruction (DA), or to that in a register pair (IRR).
-#[derive(Drop)]
+#[derive(Clone, Copy)]
 pub enum Target {
     Direct,
     Pair,
 }
 
 // The pages that make a result of destination and source and store it in the destination.
-#[derive(Drop)]
+#[derive(Clone, Copy)]
 pub enum Binary {
     Adc,
     Add,
@@ -70,7 +72,7 @@ pub enum Binary {
 }
 
 // The pages that test destination and source, and store nothing.
-#[derive(Drop)]
+#[derive(Clone, Copy)]
 pub enum Test {
     Cp,
     Tcm,
@@ -78,7 +80,7 @@ pub enum Test {
 }
 
 // The pages that make a result of the destination alone.
-#[derive(Drop)]
+#[derive(Clone, Copy)]
 pub enum Unary {
     Com,
     Dec,
@@ -92,7 +94,7 @@ pub enum Unary {
 }
 
 // The same for a register pair.
-#[derive(Drop)]
+#[derive(Clone, Copy)]
 pub enum Paired {
     Decw,
     Incw,
@@ -100,7 +102,7 @@ pub enum Paired {
 
 // The kind of an instruction: its page in chapter 5, and its address modes where the page has several. Pages that read and store alike
 // are one kind, with the page inside it.
-#[derive(Drop)]
+#[derive(Clone, Copy)]
 pub enum Kind {
     Binary(Binary, Two),
     Test(Test, Two),
@@ -131,7 +133,7 @@ pub enum Kind {
 }
 
 // What the map has at an opcode.
-#[derive(Drop)]
+#[derive(Clone, Copy)]
 pub enum Entry {
     Blank,
     Of(Kind),
@@ -139,14 +141,14 @@ pub enum Entry {
 
 // What three bytes of a program decode to: the opcode, its operand bytes (those it hasn't being zero) and its length; or
 // the refusal.
-#[derive(Drop)]
+#[derive(Clone, Copy)]
 pub enum Decoded {
     Instruction(u8, u8, u8, u8),
     Refused(u8),
 }
 
 // What an instruction is encoded to: its length and three bytes, unused ones zero; or the refusal.
-#[derive(Drop)]
+#[derive(Clone, Copy)]
 pub enum Encoded {
     Bytes(u8, u8, u8, u8),
     Refused(u8),

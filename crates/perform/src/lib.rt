@@ -1,4 +1,6 @@
 // An instruction at once: its column gives the operands, its row the operation.
+#![tactic(auto)]
+
 mod alone;
 mod jumps;
 mod returns;

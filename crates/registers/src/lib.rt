@@ -1,4 +1,6 @@
 // What a register's address reads, and what a store to it does; operand addresses and pairs; the stack.
+#![tactic(auto)]
+
 pub mod addresses;
 pub mod stack;
 

@@ -1,4 +1,6 @@
 // A machine as 276 bytes, and back (01 "Numbers the encoder sees"; 02, C-11 and C-13).
+#![tactic(auto)]
+
 ghost use Rattle.std.specs.Prelude.{◌≡◌, length, take};
 ghost use Rattle.numbers.specs.Numbers.{file_length, saved_length};
 ghost use Rattle.word.specs.Fields.{low_byte};
@@ -12,7 +14,7 @@ use timers::Timer;
 
 // What a saved machine loads to: a refusal's number, 7 or 6, or 0 and the machine. (A refused answer holds the standard machine, as it
 // has to hold one.)
-#[derive(Drop)]
+#[derive(Clone, Copy)]
 pub struct Loaded {
     pub refusal: u8,
     pub machine: Machine,

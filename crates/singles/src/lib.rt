@@ -1,4 +1,6 @@
 // The instructions of columns 2 to 7 whose rows don't go by the column: LDE, LDEI, LDC, LDCI, CALL, and LD of rows C, D and F.
+#![tactic(auto)]
+
 ghost use Rattle.std.specs.Prelude.{◌≡◌};
 ghost use Rattle.machine.specs.Registers.{write_reg};
 ghost use Rattle.lent.specs.View.{machine_in};

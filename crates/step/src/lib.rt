@@ -1,4 +1,6 @@
 // The whole chip: one step, the bounded run, the span (01 "One step"). A `Machine` goes by value; below `step` and `run` it is lent.
+#![tactic(auto)]
+
 ghost use Rattle.std.specs.Prelude.{◌≡◌, true, false, List, ℕ, ◌≤◌};
 ghost use Rattle.numbers.specs.Numbers.{refused_opcode, budget_most};
 ghost use Rattle.machine.specs.Legal.{Legal};
@@ -15,7 +17,7 @@ use lent::Rest;
 use machine::{File, Machine, Pins, names};
 
 // What a step or a run comes to in numbers, where the machine and the data memory are lent.
-#[derive(Drop)]
+#[derive(Clone, Copy)]
 pub struct Tally {
     pub refusal: u8,
     pub cycles: u32,
@@ -24,7 +26,7 @@ pub struct Tally {
 }
 
 // What a step or a run comes to, with the machine by value; the data memory is lent.
-#[derive(Drop)]
+#[derive(Clone, Copy)]
 pub struct Progress {
     pub refusal: u8,
     pub cycles: u32,
@@ -34,7 +36,7 @@ pub struct Progress {
 }
 
 // A machine after some cycles and nothing else, and each timer's ends in them.
-#[derive(Drop)]
+#[derive(Clone, Copy)]
 pub struct Ran {
     pub ends0: u32,
     pub ends1: u32,

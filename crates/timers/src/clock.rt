@@ -108,7 +108,7 @@ fn tick_both(by: Source, s: Setting, m: Moving, k: u32) -> Spanned
 }
 
 // The ticks of the divider in some cycles, and the divider after them.
-#[derive(Drop)]
+#[derive(Clone, Copy)]
 pub struct Round {
     pub ticks: u32,
     pub divider: u32,
@@ -140,7 +140,7 @@ pub fn span(c: Control, m: Moving, n: u32) -> Spanned
 }
 
 // Whether some cycles were so few that no count ended, and the divider and both counts after them; where one ended, they are as before.
-#[derive(Drop)]
+#[derive(Clone, Copy)]
 pub struct ShortMove {
     pub few: bool,
     pub divider: u32,

@@ -1,5 +1,7 @@
 // The divider and the two timers (01 "The timers"; 004 chapter 11), and what their ends touch, the serial port among it. The definition goes by single cycles; the code moves any
 // number of cycles by division. What the cycles read (`Control`, `Setting`) stands apart from what they move (`Moving`).
+#![tactic(auto)]
+
 pub mod clock;
 pub mod registers;
 pub mod requests;
@@ -9,7 +11,7 @@ use serial::{Mode, Port};
 
 // All that the timers and the serial port read: the control registers F1 to F5 and P3M in address order, and the last Port 3 pins. Of
 // TMR the cycles read the modes alone; its enable bits, which an end may clear, are with what moves, and are put back into TMR's place by who keeps it.
-#[derive(Drop)]
+#[derive(Clone, Copy)]
 pub struct Control {
     pub tmr: u8,
     pub t1: u8,
@@ -21,7 +23,7 @@ pub struct Control {
 }
 
 // Where a tick comes from: the divider, or the falling edges of P31.
-#[derive(Drop)]
+#[derive(Clone, Copy)]
 pub enum Source {
     Divider,
     Edges,
@@ -29,7 +31,7 @@ pub enum Source {
 
 // What a timer's ticks read: start values P and N, whether it repeats, whether it takes the divider's ticks and those of edges,
 // which request its end latches, and whether its end flips T_OUT.
-#[derive(Drop)]
+#[derive(Clone, Copy)]
 pub struct Setup {
     pub p: u32,
     pub n: u32,
@@ -41,7 +43,7 @@ pub struct Setup {
 }
 
 // What both timers read, and the serial port.
-#[derive(Drop)]
+#[derive(Clone, Copy)]
 pub struct Setting {
     pub t0: Setup,
     pub t1: Setup,
@@ -49,35 +51,35 @@ pub struct Setting {
 }
 
 // A count in progress, which is a machine's timer record: the prescaler 1 to 64, the counter 1 to 256.
-#[derive(Drop)]
+#[derive(Clone, Copy)]
 pub struct Timer {
     pub prescaler: u32,
     pub counter: u32,
 }
 
 // The same with the timer's enable bit, which stands in TMR.
-#[derive(Drop)]
+#[derive(Clone, Copy)]
 pub struct Counting {
     pub timer: Timer,
     pub enabled: bool,
 }
 
 // A timer after some ticks, and how many of them ended its count.
-#[derive(Drop)]
+#[derive(Clone, Copy)]
 pub struct Ticked {
     pub counting: Counting,
     pub ends: u32,
 }
 
 // The request register: what IRQ holds, and whether an EI has released it.
-#[derive(Drop)]
+#[derive(Clone, Copy)]
 pub struct RequestRegister {
     pub irq: u8,
     pub released: bool,
 }
 
 // What the ends touch: the request register, the T_OUT level, and the serial port.
-#[derive(Drop)]
+#[derive(Clone, Copy)]
 pub struct Lines {
     pub requests: RequestRegister,
     pub tout: bool,
@@ -85,7 +87,7 @@ pub struct Lines {
 }
 
 // All that cycles move.
-#[derive(Drop)]
+#[derive(Clone, Copy)]
 pub struct Moving {
     pub divider: u32,
     pub t0: Counting,
@@ -94,7 +96,7 @@ pub struct Moving {
 }
 
 // The same after some cycles, with each timer's ends.
-#[derive(Drop)]
+#[derive(Clone, Copy)]
 pub struct Spanned {
     pub moving: Moving,
     pub ends0: u32,

@@ -96,7 +96,7 @@ fn down(c: Counting, p: u32, rounds: u32, r: u32) -> Counting
 }
 
 // Whether some ticks were so few that the count didn't end, and the count after them; where it ended, it is as before.
-#[derive(Drop)]
+#[derive(Clone, Copy)]
 pub struct ShortCount {
     pub few: bool,
     pub timer: Timer,

@@ -1,4 +1,6 @@
 // Columns 2 to 7 of the map: an instruction with two operands, by its row.
+#![tactic(auto)]
+
 ghost use Rattle.std.specs.Prelude.{◌≡◌};
 ghost use Rattle.lent.specs.View.{machine_in};
 ghost use Rattle.execute.specs.ForCode.{performed, instruction_at};

@@ -1,6 +1,8 @@
 // The core's answers to questions about bytes and instructions that nothing else goes through whole, as a checksum for each question.
 // What it writes has to be what the independent program tests/reference/answers.c writes, which shares nothing with the core but the
 // questions. What a call of the C library can be asked as well is asked there (tests/compare.c).
+#![tactic(auto)]
+
 use alu::{Flags, Outcome};
 use libc::STDOUT_FILENO;
 use opcodes::{Decoded, Encoded};

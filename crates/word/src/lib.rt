@@ -1,4 +1,6 @@
 // Bytes and words, with no chip in them.
+#![tactic(auto)]
+
 ghost use Rattle.std.specs.Prelude.{◌≡◌, ◌<◌, ◌≤◌};
 ghost use Rattle.word.specs.Choose.{bits_if};
 ghost use Rattle.word.specs.Fields.{bit_of, is_set, upper, lower, word_of, high_byte, low_byte};

@@ -1,5 +1,7 @@
 // What a C program calls (include/z8.h). Any lengths, bytes and numbers get an answer: nothing is required here. What a caller lends
 // is loaded, handed to the rooms below by value, and saved again; a refused call returns before it writes.
+#![tactic(auto)]
+
 ghost use Rattle.std.specs.Prelude.{◌≡◌};
 ghost use Rattle.numbers.specs.Numbers.{version};
 ghost use Rattle.saved.specs.Saved.{refusal_of};

@@ -1,0 +1,7 @@
+use Rattle.std.proofs.Common.{refl, rules}
+use Rattle.alu.specs.FlagByte.{packed}
+use Rattle.alu.proofs.pack.Goals as goal
+
+pub returns : goal.returns
+unfolding packed
+returns c = refl

@@ -1,0 +1,18 @@
+use borrow.Author.Rules.{rules}
+use mathlib.Core.Path.{◌≡◌}
+use Rattle.machine.specs.Names.{TMR, IRQ}
+use Rattle.machine.specs.State.{placed_in}
+use Rattle.machine.specs.Clock.{moved_to}
+use Rattle.machine.proofs.Whole.{placed_is}
+use Rattle.clock.proofs.move_to.Goals as goal
+
+pub returns : goal.returns
+unfolding moved_to
+returns c =
+    let r = c.args.x.lines.requests in
+    let port-put = rw c.put.ensures at c.set_port.ensures in
+    let mark-put = rw port-put at c.set_released.ensures in
+    let enable-put = placed_is TMR c.enabling-enabled.result mark-put in
+    let requests-put = placed_is IRQ r.irq enable-put in
+    let requests-stored : c.place-2.new.0 ≡ placed_in _ IRQ r.irq = c.place-2.ensures in
+    rw (requests-stored, c.place.ensures, requests-put, c.enabling-enabled.ensures, c.held-tmr.ensures)

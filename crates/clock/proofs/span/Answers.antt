@@ -1,0 +1,28 @@
+use borrow.Author.Rules.{rules}
+use mathlib.Core.Path.{sym}
+use Rattle.machine.specs.Names.{TMR}
+use Rattle.lent.specs.View.{machine_in}
+use Rattle.machine.specs.Clock.{moving_of, counts_at}
+use Rattle.machine.proofs.Legal.{setting_of_lem}
+use Rattle.machine.proofs.Lens.{span_few}
+use Rattle.clock.proofs.span.Goals as goal
+
+pub few_cycles-x-requires : goal.few_cycles-x-requires
+few_cycles-x-requires c = rw c.moving_of-m.ensures c.before.before.before.before.before.before.requires.moving
+
+pub returns-then-x : goal.returns-then-x
+unfolding counts_at moving_of
+returns-then-x c =
+    let start = c.before.before.before.before.before.before.before.before.before.before.before.before in
+    let before = machine_in start.args.regs.now start.args.rest.now in
+    let read = c.before.before.before.before.before.before.before.before.before.control-of.ensures in
+    let counts = c.moving_of-m.ensures in
+    let short = rw (counts, read) at c.few_cycles-x.ensures in
+    let few = rw short at c.if-x.true in
+    rw (c.set_counts.ensures, short)
+    (sym
+    (span_few before start.requires.file.long (start.requires.file.bytes TMR) start.args.n (setting_of_lem start.requires)
+    start.requires.moving few))
+
+pub returns : goal.returns
+returns c = c.long_span-long.ensures

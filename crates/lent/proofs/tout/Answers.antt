@@ -1,0 +1,8 @@
+use borrow.Author.Rules.{rules}
+use Rattle.lent.specs.View.{core_in}
+use mathlib.Core.Path.{refl}
+use Rattle.lent.proofs.tout.Goals as goal
+
+pub returns : goal.returns
+unfolding core_in
+returns c = refl

@@ -1,0 +1,8 @@
+use mathlib.Core.Path.{refl}
+use borrow.Author.Rules.{rules}
+use Rattle.machine.specs.State.{held_in}
+use Rattle.machine.proofs.file.held.Goals as goal
+
+pub returns : goal.returns
+unfolding held_in
+returns c = refl

@@ -1,0 +1,8 @@
+use mathlib.Core.Path.{refl}
+use borrow.Author.Rules.{rules}
+use Rattle.machine.specs.State.{placed_in}
+use Rattle.machine.proofs.file.place.Goals as goal
+
+pub returns : goal.returns
+unfolding placed_in
+returns c = refl

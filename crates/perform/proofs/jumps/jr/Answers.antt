@@ -1,0 +1,18 @@
+use Rattle.std.proofs.Common.{◌<◌, true, false, sym, ◌∙◌, rules}
+use Rattle.execute.specs.Doing.{jumped}
+use Rattle.perform.proofs.Arms.{jr_arm}
+use Rattle.perform.proofs.jumps.jr.Goals as goal
+use Rattle.perform.proofs.jumps.jr.Goals.{Start}
+
+op-below : (s : Start) → s.args.i.op < 256
+op-below s = search rules
+
+pub returns-then-taken : goal.returns-then-taken
+unfolding jumped
+returns-then-taken c =
+    let holds = sym c.condition-taken.ensures ∙ c.if-taken.true in
+    rw (c.set_pc.ensures, c.moved-to.ensures, c.pc-here.ensures) (jr_arm _ _ (op-below (goal.at.returns-then-taken c).Start) c.requires true holds)
+
+pub returns : goal.returns
+unfolding jumped
+returns c = jr_arm _ _ (op-below c.before.before.before.before.before) c.before.before.before.before.before.requires false (sym c.condition-taken.ensures ∙ c.if-taken.false)

@@ -1,0 +1,84 @@
+use Rattle.std.proofs.Common.{◌≡◌, ◌<◌, refl, arith, rules}
+use Rattle.opcodes.specs.Map.{entry_of, opcode_map}
+use Rattle.opcodes.specs.Instruction.{length_of}
+use Rattle.opcodes.specs.declared.Two.TheVariants.{WorkReg, RegWork, WorkImm}
+use Rattle.deeds.specs.Results.{unary_of}
+use Rattle.perform.proofs.Arms.{at_next, in_column, elsewhere, ld_column, inc_column}
+use Rattle.word.specs.Fields.{lower}
+use Rattle.word.proofs.Computed.{last}
+use Rattle.perform.proofs.perform.Goals as goal
+use Rattle.perform.proofs.perform.Goals.{Start}
+
+op-below : (s : Start) → s.args.i.op < 256
+op-below s = search rules
+
+low_below : (s : Start) → lower s.args.i.op < 16
+low_below s = search rules
+
+pub djnz-requires : goal.djnz-requires
+djnz-requires c =
+    in_column 10 _ c.in-10.is c.operands-o.ensures
+
+pub jr-requires : goal.jr-requires
+jr-requires c =
+    in_column 11 _ c.in-11.is c.operands-o.ensures
+
+pub jp-requires : goal.jp-requires
+jp-requires c =
+    in_column 13 _ c.in-13.is c.operands-o.ensures
+
+pub one-requires : goal.one-requires
+one-requires c =
+    at_next _ (omega arith) (omega arith) c.operands-o.ensures.next c.operands-o.ensures.value
+
+pub two-requires : goal.two-requires
+two-requires c =
+    at_next _ (omega arith) (omega arith) c.operands-o.ensures.next c.operands-o.ensures.value
+
+pub alone-requires : goal.alone-requires
+alone-requires c =
+    let low = lower c.args.i.op in
+    let column : low ≡ 15 = last 8 15 low c.in_default.false (low_below (goal.at.alone-requires c).Start) c.in_default-1.rest in
+    in_column 15 _ column c.operands-o.ensures
+
+pub returns-in-8 : goal.returns-in-8
+unfolding entry_of opcode_map length_of
+returns-in-8 c =
+    let asked = in_column 8 _ c.in-8.is c.operands-o.ensures in
+    elsewhere _ _ _ _ _ _ _ _ _ c.operands-o.ensures.next (rw c.write.ensures (ld_column _ _ (op-below (goal.at.returns-in-8 c).Start) WorkReg 8 asked refl refl))
+
+pub returns-in-9 : goal.returns-in-9
+unfolding entry_of opcode_map length_of
+returns-in-9 c =
+    let asked = in_column 9 _ c.in-9.is c.operands-o.ensures in
+    elsewhere _ _ _ _ _ _ _ _ _ c.operands-o.ensures.next (rw c.write-in-9.ensures (ld_column _ _ (op-below (goal.at.returns-in-9 c).Start) RegWork 9 asked refl refl))
+
+pub returns-in-10 : goal.returns-in-10
+returns-in-10 c = elsewhere _ _ _ _ _ _ _ _ _ c.operands.ensures.1 c.djnz.ensures
+
+pub returns-in-11 : goal.returns-in-11
+returns-in-11 c = elsewhere _ _ _ _ _ _ _ _ _ c.operands.ensures.1 c.jr.ensures
+
+pub returns-in-12 : goal.returns-in-12
+unfolding entry_of opcode_map length_of
+returns-in-12 c =
+    let asked = in_column 12 _ c.in-12.is c.operands-o.ensures in
+    elsewhere _ _ _ _ _ _ _ _ _ c.operands-o.ensures.next (rw c.write-in-12.ensures (ld_column _ _ (op-below (goal.at.returns-in-12 c).Start) WorkImm 12 asked refl refl))
+
+pub returns-in-13 : goal.returns-in-13
+returns-in-13 c = elsewhere _ _ _ _ _ _ _ _ _ c.operands.ensures.1 c.jp.ensures
+
+pub returns-in-14 : goal.returns-in-14
+unfolding unary_of
+returns-in-14 c =
+    let asked = in_column 14 _ c.in-14.is c.operands-o.ensures in
+    elsewhere _ _ _ _ _ _ _ _ _ c.operands-o.ensures.next (rw (c.store.ensures, c.inc-r.ensures, c.read-was.ensures) (inc_column _ _ (op-below (goal.at.returns-in-14 c).Start) asked))
+
+pub returns-in-0 : goal.returns-in-0
+returns-in-0 c = elsewhere _ _ _ _ _ _ _ _ _ c.operands-o.ensures.next c.one.ensures
+
+pub returns-in-2 : goal.returns-in-2
+returns-in-2 c = elsewhere _ _ _ _ _ _ _ _ _ c.operands-o.ensures.next c.two.ensures
+
+pub returns-in_default : goal.returns-in_default
+returns-in_default c = elsewhere _ _ _ _ _ _ _ _ _ c.operands.ensures.1 c.alone.ensures

@@ -1,0 +1,46 @@
+use borrow.Author.Rules.{rules}
+use mathlib.Core.Path.{sym, ◌∙◌, subst, ◌≡◌}
+use lib.Dec.{T}
+use borrow.Author.Tests.{not-true, not-false}
+use Rattle.machine.specs.declared.Machine.{Machine}
+use Rattle.lent.specs.View.{machine_in}
+use Rattle.interrupts.proofs.Orders.{granted_standing}
+use Rattle.interrupts.specs.Edges.{compared_of}
+use Rattle.interrupts.specs.Grants.{grant_of}
+use Rattle.step.specs.ForCode.{is_refused_of}
+use Rattle.step.proofs.Acts.{granted_is}
+use Rattle.step.proofs.Theorems.{told_refused, told_taken, granted_taken}
+use Rattle.step.proofs.is_refused.Goals as goal
+use Rattle.step.proofs.is_refused.Goals.{After-highest-g, Start}
+
+-- what is granted when the pins are compared
+module _ (s : After-highest-g) where
+  abbrev start : Start
+  start = s.before.before.before.before.before.before
+
+  abbrev given : Machine
+  given = machine_in start.args.regs.now start.args.rest.now
+
+  grant-is : grant_of (compared_of given start.args.pins.port3).machine ≡ s.highest-g.result
+  grant-is =
+      let standing = rw (s.held-ipr.ensures, s.standing-standing.ensures, s.held-imr.ensures, s.requests-irq.ensures) at s.highest-g.ensures in
+      sym (granted_is start.args.pins given start.requires) ∙ sym (rw granted_standing at standing)
+
+pub returns-in-Nothing : goal.returns-in-Nothing
+unfolding is_refused_of
+returns-in-Nothing c =
+    let st = start (goal.at.returns-in-Nothing c).After-highest-g in
+    let pins = st.args.pins in
+    let image = st.args.image.now in
+    let m = given (goal.at.returns-in-Nothing c).After-highest-g in
+    let none = grant-is (goal.at.returns-in-Nothing c).After-highest-g ∙ c.in-Nothing.is.1 in
+    let known = rw (c.program-op.ensures, c.pc-pc.ensures) at c.is_defined.ensures in record { value = rw (none, known); refused = (λ t mem. told_refused pins image mem m st.pre none (sym known ∙ not-true _ t), λ t mem. told_taken pins image mem m st.pre none (sym known ∙ not-false _ t)); taken =  }
+
+pub returns-in-Request : goal.returns-in-Request
+unfolding is_refused_of
+returns-in-Request c =
+    let st = start (goal.at.returns-in-Request c).After-highest-g in
+    let pins = st.args.pins in
+    let image = st.args.image.now in
+    let m = given (goal.at.returns-in-Request c).After-highest-g in
+    let some = grant-is (goal.at.returns-in-Request c).After-highest-g ∙ c.in-Request.field-0.1 in record { value = rw (some); refused = (λ t mem. absurd (subst T (sym t) tt), λ t mem. granted_taken pins image mem m st.pre some); taken =  }
