@@ -1,4 +1,4 @@
-use Rattle.std.proofs.Common.{sym, ◌∙◌, rules}
+use Rattle.std.proofs.Common.{sym, ◌∙◌}
 use Rattle.machine.proofs.Ranges.{general_range, general_reads}
 use Rattle.registers.proofs.read.Goals as goal
 

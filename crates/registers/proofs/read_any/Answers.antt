@@ -1,4 +1,4 @@
-use Rattle.std.proofs.Common.{◌≡◌, ℕ, ◌<◌, ◌≤◌, ◌∙◌, ⊎_elim, arith, rules, le-ltb, lt-ltb, ne_eqb, le-leb}
+use Rattle.std.proofs.Common.{◌≡◌, ℕ, ◌<◌, ◌≤◌, ◌∙◌, arith, le-ltb, lt-ltb, ne_eqb, le-leb}
 use borrow.Author.Tests.{lt-leb}
 use Rattle.machine.specs.State.{held}
 use Rattle.machine.specs.Registers.{read_reg, read_port}
@@ -6,6 +6,7 @@ use Rattle.machine.specs.declared.Machine.{Machine}
 use Rattle.machine.specs.declared.Pins.{Pins}
 use Rattle.machine.proofs.Ranges.{hole_reads, general_reads}
 use Rattle.registers.proofs.read_any.Goals as goal
+use Rattle.registers.proofs.read_any.Goals.{in_default-via-then-a-lt128, in_default-via-else-a-lt128+else-a-lt241+then-a-lt242, in_default-via-else-a-lt128+else-a-lt241+else-a-lt242+else-a-lt250}
 
 hidden : (p : Pins) (m : Machine) (a : ℕ) → 0xF5 ≤ a → a ≤ 0xF9 → 0xFF ≡ read_reg p m a
 unfolding read_reg
@@ -62,4 +63,9 @@ pub returns-in-245-to-249 : goal.returns-in-245-to-249
 returns-in-245-to-249 c = hidden _ _ _ (omega arith) (omega arith)
 
 pub returns-in_default : goal.returns-in_default
-returns-in_default c = c.held-in_default.ensures ∙ ⊎_elim (λ w. general_reads _ _ _ (omega arith) w.taken) (⊎_elim (λ w. tmr _ _ _ (omega arith)) (λ w. control _ _ _ w.3.left c.in_default-1.rest.1)) c.in_default.branch
+returns-in_default c =
+    c.held-in_default.ensures ∙ elim c.in_default.branch [
+      | in_default-via-then-a-lt128 w ↦ general_reads _ _ _ (omega arith) (omega arith)
+      | in_default-via-else-a-lt128+else-a-lt241+then-a-lt242 w ↦ tmr _ _ _ (omega arith)
+      | in_default-via-else-a-lt128+else-a-lt241+else-a-lt242+else-a-lt250 w ↦ control _ _ _ (omega arith) (omega arith)
+    ]

@@ -1,4 +1,3 @@
-use Rattle.std.proofs.Common.{rules}
 use Rattle.machine.specs.Registers.{read_port}
 use Rattle.registers.proofs.read_port.Goals as goal
 

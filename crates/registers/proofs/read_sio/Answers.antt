@@ -1,4 +1,3 @@
-use Rattle.std.proofs.Common.{rules}
 use Rattle.machine.specs.Serial.{read_sio}
 use Rattle.registers.proofs.read_sio.Goals as goal
 

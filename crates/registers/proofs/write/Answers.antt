@@ -1,4 +1,4 @@
-use Rattle.std.proofs.Common.{sym, ◌∙◌, rules}
+use Rattle.std.proofs.Common.{sym, ◌∙◌}
 use Rattle.machine.specs.State.{placed}
 use Rattle.machine.proofs.Ranges.{general_range, general_stores}
 use Rattle.registers.proofs.write.Goals as goal

@@ -1,10 +1,11 @@
-use Rattle.std.proofs.Common.{◌≡◌, ℕ, ◌<◌, ◌≤◌, ◌∙◌, ⊎_elim, arith, rules, le-ltb, lt-ltb, ne_eqb, le-leb}
+use Rattle.std.proofs.Common.{◌≡◌, ℕ, ◌<◌, ◌≤◌, ◌∙◌, arith, le-ltb, lt-ltb, ne_eqb, le-leb}
 use borrow.Author.Tests.{lt-leb}
 use Rattle.machine.specs.State.{placed}
 use Rattle.machine.specs.Registers.{write_reg, write_port}
 use Rattle.machine.specs.declared.Machine.{Machine}
 use Rattle.machine.proofs.Ranges.{hole_stores, general_stores}
 use Rattle.registers.proofs.write_any.Goals as goal
+use Rattle.registers.proofs.write_any.Goals.{in_default-via-then-a-lt128, in_default-via-else-a-lt128+else-a-lt241}
 
 port : (m : Machine) (a v : ℕ) → a < 0x04 → write_port m a v ≡ write_reg m a v
 unfolding write_reg
@@ -23,7 +24,7 @@ returns-in-241 c = c.write_tmr.ensures ∙ rw c.in-241.is
 
 pub returns-in-250 : goal.returns-in-250
 unfolding write_reg
-returns-in-250 c = c.write_irq.ensures ∙ rw c.match.keys2
+returns-in-250 c = c.write_irq.ensures ∙ rw c.in-250.is
 
 pub returns-in-253 : goal.returns-in-253
 unfolding write_reg placed
@@ -37,4 +38,9 @@ returns-in-128-to-240 c = c.write_hole.ensures ∙ hole_stores _ _ _ (omega arit
 
 pub returns-in_default : goal.returns-in_default
 unfolding placed
-returns-in_default c = let r = c.in_default-1.rest in rw c.place-in_default.ensures (⊎_elim (λ w. general_stores _ _ _ (omega arith) w.taken) (λ w. control _ _ _ w.1.left r.0.0.1 r.0.1 r.1) c.in_default.branch)
+returns-in_default c =
+    rw c.place-in_default.ensures
+    (elim c.in_default.branch [
+      | in_default-via-then-a-lt128 w ↦ general_stores _ _ _ (omega arith) (omega arith)
+      | in_default-via-else-a-lt128+else-a-lt241 w ↦ control _ _ _ (omega arith) (omega arith) (omega arith) (omega arith)
+    ])

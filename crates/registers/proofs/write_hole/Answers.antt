@@ -1,4 +1,4 @@
-use Rattle.std.proofs.Common.{◌∙◌, rules, ne_eqb}
+use Rattle.std.proofs.Common.{◌∙◌, ne_eqb}
 use Rattle.registers.proofs.write_hole.Goals as goal
 
 pub returns-then-a-eq-SIO : goal.returns-then-a-eq-SIO

@@ -1,4 +1,4 @@
-use Rattle.std.proofs.Common.{◌≡◌, true, false, rules}
+use Rattle.std.proofs.Common.{◌≡◌, true, false}
 use Rattle.machine.specs.State.{placed}
 use Rattle.machine.specs.Registers.{write_irq}
 use Rattle.registers.proofs.write_irq.Goals as goal

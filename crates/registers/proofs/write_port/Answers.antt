@@ -1,4 +1,3 @@
-use Rattle.std.proofs.Common.{rules}
 use Rattle.machine.specs.Registers.{write_port}
 use Rattle.machine.specs.State.{placed}
 use Rattle.registers.proofs.write_port.Goals as goal
@@ -9,6 +8,6 @@ returns c =
     let stored = c.stores-after.ensures in
     let directions = c.directions_of-d.ensures in
     let latch = c.held-latch.ensures in
-    let p2m = c.held2.ensures in
-    let p01m = c.before.before.before.before.before.before.before.before.held.ensures in
+    let p2m = c.held-p2m.ensures in
+    let p01m = c.held-p01m.ensures in
     rw (c.place.ensures, stored, directions, latch, p2m, p01m)

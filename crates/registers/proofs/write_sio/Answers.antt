@@ -1,4 +1,4 @@
-use Rattle.std.proofs.Common.{◌≡◌, true, false, rules}
+use Rattle.std.proofs.Common.{◌≡◌, true, false}
 use Rattle.machine.specs.Serial.{write_sio}
 use Rattle.registers.proofs.write_sio.Goals as goal
 

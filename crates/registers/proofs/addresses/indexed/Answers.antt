@@ -1,4 +1,3 @@
-use Rattle.std.proofs.Common.{rules}
 use Rattle.machine.specs.Addresses.{indexed_at}
 use Rattle.registers.proofs.addresses.indexed.Goals as goal
 

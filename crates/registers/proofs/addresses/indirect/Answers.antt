@@ -1,4 +1,3 @@
-use Rattle.std.proofs.Common.{rules}
 use Rattle.machine.specs.Addresses.{indirect_at}
 use Rattle.registers.proofs.addresses.indirect.Goals as goal
 

@@ -1,4 +1,3 @@
-use Rattle.std.proofs.Common.{rules}
 use Rattle.machine.specs.Addresses.{read_pair}
 use Rattle.registers.proofs.addresses.read_pair.Goals as goal
 

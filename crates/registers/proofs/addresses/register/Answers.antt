@@ -1,4 +1,4 @@
-use Rattle.std.proofs.Common.{◌≡◌, ◌/◌, true, false, eqb, rules, eq-eqb, ne_eqb}
+use Rattle.std.proofs.Common.{◌≡◌, ◌/◌, true, false, eqb, eq-eqb, ne_eqb}
 use Rattle.machine.specs.Addresses.{register_at}
 use Rattle.registers.proofs.addresses.register.Goals as goal
 

@@ -1,4 +1,3 @@
-use Rattle.std.proofs.Common.{rules}
 use Rattle.machine.specs.Addresses.{working_at}
 use Rattle.registers.proofs.addresses.working.Goals as goal
 

@@ -1,4 +1,3 @@
-use Rattle.std.proofs.Common.{rules}
 use Rattle.machine.specs.Addresses.{working_indirect_at}
 use Rattle.registers.proofs.addresses.working_indirect.Goals as goal
 

@@ -1,4 +1,3 @@
-use Rattle.std.proofs.Common.{rules}
 use Rattle.machine.specs.Addresses.{write_pair}
 use Rattle.registers.proofs.addresses.write_pair.Goals as goal
 

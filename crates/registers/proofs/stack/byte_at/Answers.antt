@@ -1,4 +1,3 @@
-use Rattle.std.proofs.Common.{rules}
 use Rattle.machine.specs.Stack.{stack_byte}
 use Rattle.registers.proofs.stack.byte_at.Goals as goal
 

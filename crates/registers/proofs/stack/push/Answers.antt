@@ -1,4 +1,3 @@
-use Rattle.std.proofs.Common.{rules}
 use Rattle.machine.specs.Stack.{pushed, pushed_internal}
 use Rattle.machine.specs.Memory.{stored_in}
 use Rattle.registers.proofs.stack.push.Goals as goal
@@ -9,4 +8,4 @@ returns-then-internal c = rw (c.push_internal.ensures, ← c.is_internal-interna
 
 pub returns-else-internal : goal.returns-else-internal
 unfolding pushed
-returns-else-internal c = rw (← c.is-internal.ensures, c.if1.false) c.push_external.ensures
+returns-else-internal c = rw (← c.is_internal-internal.ensures, c.if-internal.false) c.push_external.ensures

@@ -1,4 +1,3 @@
-use Rattle.std.proofs.Common.{rules}
 use Rattle.machine.specs.Stack.{pushed_internal}
 use Rattle.machine.specs.State.{placed}
 use Rattle.registers.proofs.stack.push_internal.Goals as goal
@@ -9,5 +8,5 @@ returns c =
     let spl-put = c.place.ensures in
     let lowered = c.wrapping_add_u8-sp.ensures.value in
     let old-spl = c.held-spl.ensures in
-    let how-many = c.count_of.ensures.0 in
+    let how-many = c.count_of-n.ensures.0 in
     rw (c.write_from.ensures, spl-put, lowered, old-spl, how-many)

@@ -1,4 +1,3 @@
-use Rattle.std.proofs.Common.{rules}
 use Rattle.machine.specs.Stack.{sp_set}
 use Rattle.machine.specs.State.{placed}
 use Rattle.registers.proofs.stack.set_sp.Goals as goal

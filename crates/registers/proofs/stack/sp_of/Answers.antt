@@ -1,4 +1,3 @@
-use Rattle.std.proofs.Common.{rules}
 use Rattle.machine.specs.Stack.{sp_of}
 use Rattle.registers.proofs.stack.sp_of.Goals as goal
 
