@@ -23,7 +23,6 @@ use Rattle.timers.specs.declared.Timer.{Timer}
 use Rattle.timers.specs.declared.Moving.{Moving}
 use Rattle.serial.specs.Port.{LegalPort}
 use Rattle.serial.specs.declared.Port.{Port}
-use Rattle.serial.specs.declared.Mode.{Mode}
 use Rattle.serial.proofs.Theorems.{idle_legal, waiting_legal, stored_legal}
 use Rattle.timers.proofs.Legal.{setting_legal, written_legal, cycles_legal}
 use Rattle.machine.specs.State.{held_in, placed_in, held, placed, with_pc, with_last3, with_released, with_port, with_transmitter}
@@ -311,8 +310,8 @@ AllBytes [] = Unit {0}
 AllBytes (v ∷ vs) = (v < 256) × AllBytes vs
 
 from_legal : {m : Machine} (a : ℕ) (vs : List ℕ) → Legal m → a < 256 → AllBytes vs → Legal (written_from m a vs)
-from_legal a [] l h all = l
-from_legal a (v ∷ vs) l h all = from_legal ((a + 1) % 256) vs (write_legal l a v h all.0) (omega arith) all.1
+from_legal {m = m} a [] l h all = l
+from_legal {m = m} a (v ∷ vs) l h all = from_legal {m = write_reg m a v} ((a + 1) % 256) vs (write_legal l a v h all.0) (omega arith) all.1
 
 -- SPH and SPL may hold any byte
 spl_legal : {m : Machine} (sp : ℕ) → Legal m → sp < 256 → Legal (placed m 0xFF sp)
@@ -347,11 +346,11 @@ all_fit [] = true
 all_fit (p ∷ ps) = fits p && all_fit ps
 
 all_placed : {l : List ℕ} (ps : List Place) → T (all_fit ps) → LegalFile true l → LegalFile true (placed_all l ps)
-all_placed [] t f = f
-all_placed (p ∷ ps) t f =
+all_placed {l = l} [] t f = f
+all_placed {l = l} (p ∷ ps) t f =
     let here = and_left (fits p) (all_fit ps) t in
     let more = and_right (ltb p.address 256) (ltb p.byte 256 && may_hold true p.address p.byte) here in
-    all_placed ps (and_right (fits p) (all_fit ps) t)
+    all_placed {l = placed_in l p.address p.byte} ps (and_right (fits p) (all_fit ps) t)
     (file_placed p.address p.byte f
     (ltb→lt p.address 256 (and_left (ltb p.address 256) _ here))
     (ltb→lt p.byte 256 (and_left (ltb p.byte 256) (may_hold true p.address p.byte) more))

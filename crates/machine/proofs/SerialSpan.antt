@@ -6,7 +6,6 @@ use mathlib.Core.Bool.{true, false}
 use Prim.Native.Nat.{ℕ}
 use Rattle.word.specs.Iter.{iter}
 use Rattle.serial.specs.Port.{port_ends}
-use Rattle.serial.specs.declared.Mode.{Mode}
 use Rattle.serial.specs.declared.Ended.{Ended}
 use Rattle.timers.specs.Requests.{latch}
 use Rattle.timers.specs.Control.{setting_of, setup_of}
@@ -19,7 +18,7 @@ use Rattle.timers.specs.declared.Spanned.{Spanned}
 use Rattle.timers.proofs.BitClock.{port_hears, port_rests}
 use Rattle.machine.specs.Names.{TMR}
 use Rattle.machine.specs.State.{placed, with_released, with_port}
-use Rattle.machine.specs.Clock.{Ran, control_with, control_of, moving_of, counts_at, moved_to, shown, span_of}
+use Rattle.machine.specs.Clock.{control_with, control_of, moving_of, counts_at, moved_to, shown, span_of}
 use Rattle.machine.specs.Serial.{port_mode}
 use Rattle.machine.specs.Legal.{Legal}
 use Rattle.machine.specs.declared.Machine.{Machine}

@@ -5,7 +5,6 @@ use Prim.Native.Nat.{ℕ, ◌<◌}
 use lib.Dec.{lit<}
 use Rattle.word.proofs.Computed.{by_test}
 use Rattle.serial.specs.Transmitter.{stored}
-use Rattle.serial.specs.declared.Mode.{Mode}
 use Rattle.machine.specs.Names.{SIO}
 use Rattle.machine.specs.State.{with_transmitter}
 use Rattle.machine.specs.Serial.{port_mode, read_sio, write_sio}

@@ -24,7 +24,6 @@ use Rattle.timers.specs.declared.Spanned.{Spanned}
 use Rattle.word.proofs.Iterate.{iter_keeps}
 use Rattle.serial.specs.Port.{port_end}
 use Rattle.serial.specs.declared.Mode.{Mode}
-use Rattle.serial.specs.declared.Ended.{Ended}
 use Rattle.timers.proofs.Formula.{formula}
 use Rattle.timers.proofs.Latched.{fits_irq}
 use Rattle.timers.proofs.Held.{cycles_hold}

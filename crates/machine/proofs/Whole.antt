@@ -9,7 +9,6 @@ use Rattle.word.specs.Words.{plus}
 use Rattle.word.proofs.Computed.{by_test}
 use Rattle.timers.specs.Clock.{written}
 use Rattle.word.proofs.Iterate.{iter_keeps}
-use Rattle.serial.specs.declared.Mode.{Mode}
 use Rattle.machine.specs.State.{placed_in, whole, placed, with_released, with_port, with_transmitter}
 use Rattle.machine.specs.Clock.{moving_of, counts_at, moved_to, write_tmr, Ran, shown, cycle_of, span_of}
 use Rattle.machine.specs.Serial.{write_sio}

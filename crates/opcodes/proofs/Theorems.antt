@@ -1,7 +1,7 @@
 -- What the map promises besides the functions' contracts: which opcodes are undefined and how many are defined, what each costs, and
 -- that decoding and encoding undo each other. Tests over all 256 opcodes are computed; operand bytes are variables throughout.
 use mathlib.Core.Path.{◌≡◌, ◌∙◌, refl, sym, ap, subst}
-use mathlib.Core.Bool.{Bool, true, false, ◌&&◌, ◌||◌}
+use mathlib.Core.Bool.{Bool, true, false, ◌&&◌}
 use mathlib.Core.List.{List, [], ◌∷◌, ◌++◌}
 use Prim.Native.Nat.{ℕ, zero, suc, ◌+◌, ◌*◌, ◌≤◌, ◌<◌}
 use native.Mathlib.Omega.{arith}

@@ -9,7 +9,6 @@ use Rattle.word.specs.Choose.{pick}
 use Rattle.word.specs.Iter.{iter}
 use Rattle.serial.specs.Port.{port_end, quiet, more_port, port_ends}
 use Rattle.serial.specs.declared.Mode.{Mode}
-use Rattle.serial.specs.declared.Ended.{Ended}
 use Rattle.timers.specs.Requests.{latch, latched_if}
 use Rattle.timers.specs.Clock.{end_of, flips, asked_for, bit_clock, end0_of}
 use Rattle.timers.specs.declared.Setup.{Setup}

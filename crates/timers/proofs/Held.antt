@@ -5,7 +5,6 @@ use mathlib.Core.Bool.{Bool, true, false}
 use Prim.Native.Nat.{ℕ, ◌+◌, ◌%◌, ◌<◌}
 use lib.Dec.{eqb}
 use Rattle.word.specs.Choose.{pick}
-use Rattle.word.specs.Iter.{iter}
 use Rattle.word.proofs.Computed.{by_test}
 use Rattle.word.proofs.Iterate.{iter_keeps, iter_alike}
 use Rattle.serial.specs.Port.{port_end}

@@ -1,4 +1,3 @@
-use Rattle.std.proofs.Common.{rules}
 use Rattle.alu.specs.FlagByte.{ccf_of}
 use Rattle.alu.proofs.ccf.Goals as goal
 

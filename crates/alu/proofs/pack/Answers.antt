@@ -1,4 +1,4 @@
-use Rattle.std.proofs.Common.{refl, rules}
+use Rattle.std.proofs.Common.{refl}
 use Rattle.alu.specs.FlagByte.{packed}
 use Rattle.alu.proofs.pack.Goals as goal
 

@@ -1,4 +1,3 @@
-use Rattle.std.proofs.Common.{rules}
 use Rattle.alu.specs.FlagByte.{rcf_of}
 use Rattle.alu.proofs.rcf.Goals as goal
 

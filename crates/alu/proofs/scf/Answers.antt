@@ -1,4 +1,3 @@
-use Rattle.std.proofs.Common.{rules}
 use Rattle.alu.specs.FlagByte.{scf_of}
 use Rattle.alu.proofs.scf.Goals as goal
 

@@ -1,4 +1,3 @@
-use borrow.Author.Rules.{rules}
 use Rattle.machine.specs.Clock.{control_of}
 use Rattle.clock.proofs.control_of.Goals as goal
 

@@ -1,4 +1,3 @@
-use borrow.Author.Rules.{rules}
 use Rattle.machine.specs.Clock.{control_with}
 use Rattle.clock.proofs.control_with.Goals as goal
 

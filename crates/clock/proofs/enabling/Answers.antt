@@ -1,4 +1,3 @@
-use borrow.Author.Rules.{rules}
 use Rattle.machine.specs.Clock.{enabling}
 use Rattle.clock.proofs.enabling.Goals as goal
 

@@ -1,4 +1,3 @@
-use borrow.Author.Rules.{rules}
 use mathlib.Core.Path.{◌≡◌}
 use Rattle.machine.specs.Names.{TMR, IRQ}
 use Rattle.machine.specs.State.{placed_in}
@@ -14,5 +13,5 @@ returns c =
     let mark-put = rw port-put at c.set_released.ensures in
     let enable-put = placed_is TMR c.enabling-enabled.result mark-put in
     let requests-put = placed_is IRQ r.irq enable-put in
-    let requests-stored : c.place-2.new.0 ≡ placed_in _ IRQ r.irq = c.place-2.ensures in
+    let requests-stored : c.place-2.new.regs ≡ placed_in _ IRQ r.irq = c.place-2.ensures in
     rw (requests-stored, c.place.ensures, requests-put, c.enabling-enabled.ensures, c.held-tmr.ensures)

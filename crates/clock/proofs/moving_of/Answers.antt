@@ -1,4 +1,3 @@
-use borrow.Author.Rules.{rules}
 use Rattle.machine.specs.Clock.{moving_of}
 use Rattle.clock.proofs.moving_of.Goals as goal
 

@@ -1,4 +1,3 @@
-use borrow.Author.Rules.{rules}
 use Rattle.machine.specs.Serial.{port_mode}
 use Rattle.clock.proofs.port_mode.Goals as goal
 

@@ -1,4 +1,3 @@
-use borrow.Author.Rules.{rules}
 use Rattle.machine.specs.Clock.{counts_at}
 use Rattle.clock.proofs.put.Goals as goal
 

@@ -1,4 +1,3 @@
-use borrow.Author.Rules.{rules}
 use mathlib.Core.Path.{◌≡◌}
 use Rattle.machine.specs.Names.{TMR}
 use Rattle.machine.specs.State.{placed_in}
@@ -9,10 +8,10 @@ use Rattle.clock.proofs.write_tmr.Goals as goal
 pub returns : goal.returns
 unfolding write_tmr
 returns c =
-    let kept = c.kept in
+    let kept = c.kept-kept in
     let tmr_put = placed_is TMR kept.result c.put.ensures in
-    let written = c.write-tmr.ensures in
-    let counts = c.moving-of.ensures in
-    let read = c.before.before.before.before.before.before.before.before.before.before.control-with.ensures in
-    let stored : c.place.new.0 ≡ placed_in _ TMR kept.result = c.place.ensures in
+    let written = c.write_tmr-x.ensures in
+    let counts = c.moving_of-m.ensures in
+    let read = c.control_with-c.ensures in
+    let stored : c.place.new.regs ≡ placed_in _ TMR kept.result = c.place.ensures in
     rw (stored, tmr_put, kept.ensures, written, counts, read)

@@ -1,4 +1,3 @@
-use borrow.Author.Rules.{rules}
 use Rattle.lent.specs.View.{core_in}
 use mathlib.Core.Path.{refl}
 use Rattle.lent.proofs.kind.Goals as goal

@@ -1,4 +1,3 @@
-use borrow.Author.Rules.{rules}
 use mathlib.Core.Path.{refl}
 use Rattle.lent.specs.View.{core_in}
 use Rattle.lent.proofs.received.Goals as goal

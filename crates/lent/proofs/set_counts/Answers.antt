@@ -1,4 +1,3 @@
-use borrow.Author.Rules.{rules}
 use Rattle.lent.proofs.Seen.{counts_set}
 use Rattle.lent.proofs.set_counts.Goals as goal
 

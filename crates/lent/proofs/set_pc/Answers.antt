@@ -1,4 +1,3 @@
-use borrow.Author.Rules.{rules}
 use native.Mathlib.Omega.{arith}
 use Rattle.machine.specs.State.{with_pc}
 use Rattle.lent.proofs.Seen.{pc_set}

@@ -1,4 +1,3 @@
-use borrow.Author.Rules.{rules}
 use mathlib.Core.Path.{ap}
 use Rattle.machine.specs.State.{whole, with_released}
 use Rattle.lent.proofs.Seen.{released_set}

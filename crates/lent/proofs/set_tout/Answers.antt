@@ -1,4 +1,3 @@
-use borrow.Author.Rules.{rules}
 use Rattle.lent.proofs.Seen.{tout_set}
 use Rattle.lent.proofs.set_tout.Goals as goal
 

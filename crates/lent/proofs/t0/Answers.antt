@@ -1,4 +1,3 @@
-use borrow.Author.Rules.{rules}
 use Rattle.lent.specs.View.{core_in}
 use Rattle.lent.proofs.t0.Goals as goal
 

@@ -1,4 +1,3 @@
-use borrow.Author.Rules.{rules}
 use Rattle.saved.specs.Saved.{bits_clear}
 use Rattle.saved.proofs.bits_clear.Goals as goal
 

@@ -1,10 +1,9 @@
-use mathlib.Core.Path.{◌≡◌, ◌∙◌, refl, sym}
+use mathlib.Core.Path.{◌∙◌, refl, sym}
 use mathlib.Core.List.{append-nil}
-use Prim.Native.Nat.{◌-◌, ◌≤◌}
 use native.Mathlib.Omega.{arith}
-use lib.ListN.{length, length-set, drop_of_length-le}
+use lib.ListN.{length-set, drop_of_length-le}
 use lib.Seq.{take_all}
-use Rattle.saved.proofs.Lists.{over, over_more}
+use Rattle.saved.proofs.Lists.{over_more}
 use Rattle.saved.proofs.copy.Goals as goal
 
 pub loop-i-init : goal.loop-i-init

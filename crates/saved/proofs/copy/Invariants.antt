@@ -1,14 +1,11 @@
-use mathlib.Core.Path.{◌≡◌, ◌∙◌, refl, sym}
-use mathlib.Core.List.{append-nil}
+use mathlib.Core.Path.{◌≡◌}
 use Prim.Native.Nat.{◌-◌, ◌≤◌}
-use native.Mathlib.Omega.{arith}
-use lib.ListN.{length, length-set, drop_of_length-le}
-use lib.Seq.{take_all}
-use Rattle.saved.proofs.Lists.{over, over_more}
+use lib.ListN.{length}
+use Rattle.saved.proofs.Lists.{over}
 use Rattle.saved.proofs.copy.Given as goal
 
-abbrev invariant-loop : tie.invariant-loop
-invariant-loop to₀ from n i₀ to i = (i ≤ n) × ((n ≡ length from) × ((length to₀ ≡ n) × ((length to ≡ n) × (to ≡ over from to₀ i))))
+abbrev pub invariant-loop-i : goal.invariant-loop-i
+invariant-loop-i l = (l.i ≤ l.n) × ((l.n ≡ length l.from) × ((length l.fn.to ≡ l.n) × ((length l.to ≡ l.n) × (l.to ≡ over l.from l.fn.to l.i))))
 
-abbrev decreases-loop : tie.decreases-loop
-decreases-loop to₀ from n i₀ to i = n - i
+abbrev pub decreases-loop-i : goal.decreases-loop-i
+decreases-loop-i l = l.n - l.i

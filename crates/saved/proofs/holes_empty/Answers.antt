@@ -1,7 +1,7 @@
 use mathlib.Core.Path.{◌≡◌, ◌∙◌, refl, sym}
 use native.Mathlib.Omega.{arith}
-use Prim.Native.Nat.{suc, ◌+◌, ◌-◌, ◌≤◌}
-use Rattle.saved.specs.Saved.{zeros, holes_empty}
+use Prim.Native.Nat.{suc, ◌+◌, ◌-◌}
+use Rattle.saved.specs.Saved.{holes_empty}
 use Rattle.saved.proofs.Lists.{zero_here, other_here}
 use Rattle.saved.proofs.holes_empty.Goals as goal
 

@@ -1,4 +1,3 @@
-use borrow.Author.Rules.{rules}
 use Rattle.saved.specs.Saved.{legal_of}
 use Rattle.saved.proofs.is_legal.Goals as goal
 

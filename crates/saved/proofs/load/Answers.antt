@@ -1,4 +1,3 @@
-use borrow.Author.Rules.{rules}
 use mathlib.Core.Path.{◌∙◌, sym}
 use native.Mathlib.Omega.{arith}
 use borrow.Author.Tests.{ne_eqb}
@@ -15,7 +14,8 @@ machine_of-machine-requires c = loads_long _ (sym c.check-refusal.ensures ∙ c.
 
 pub returns : goal.returns
 unfolding load_of
-returns c = (
-  rw (c.machine_of-machine.ensures, ← c.check-refusal.ensures, c.if-refusal-ne-DONE.false),
-  λ e. rw c.machine_of-machine.ensures (bytes_and_back c.args.saved.now (λ i. omega (arith, c.type_inv.saved i)) (sym c.check-refusal.ensures ∙ c.if-refusal-ne-DONE.false)).0,
-)
+returns c =
+    record {
+      value = rw (c.machine_of-machine.ensures, ← c.check-refusal.ensures, c.if-refusal-ne-DONE.false);
+      legal = λ e. rw c.machine_of-machine.ensures (bytes_and_back c.args.saved.now (λ i. omega (arith, c.type_inv.saved i)) (sym c.check-refusal.ensures ∙ c.if-refusal-ne-DONE.false)).0;
+    }

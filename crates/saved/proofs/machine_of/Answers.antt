@@ -1,4 +1,3 @@
-use borrow.Author.Rules.{rules}
 use Rattle.saved.specs.Saved.{machine_of}
 use Rattle.saved.proofs.machine_of.Goals as goal
 

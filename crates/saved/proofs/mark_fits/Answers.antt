@@ -1,4 +1,3 @@
-use borrow.Author.Rules.{rules}
 use Rattle.saved.specs.Saved.{mark_fits}
 use Rattle.saved.proofs.mark_fits.Goals as goal
 

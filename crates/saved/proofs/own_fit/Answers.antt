@@ -1,4 +1,3 @@
-use borrow.Author.Rules.{rules}
 use Rattle.saved.specs.Saved.{own_fit}
 use Rattle.saved.proofs.own_fit.Goals as goal
 

@@ -1,4 +1,3 @@
-use borrow.Author.Rules.{rules}
 use mathlib.Core.Path.{refl}
 use Rattle.saved.specs.Saved.{port_of}
 use Rattle.saved.proofs.port_of.Goals as goal

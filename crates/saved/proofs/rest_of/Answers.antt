@@ -1,4 +1,3 @@
-use borrow.Author.Rules.{rules}
 use Rattle.saved.specs.Saved.{rest_of}
 use Rattle.saved.proofs.rest_of.Goals as goal
 

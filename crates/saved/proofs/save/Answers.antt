@@ -12,25 +12,13 @@ use Rattle.saved.proofs.save.Goals.{Start}
 long : (s : Start) → length s.args.m.regs ≡ 256
 long s = search rules
 
--- LEFT part-copy-start : tie.Need-slice-bounds-copy-start
--- part-copy-start c = search rules
-
--- LEFT part-copy-end : tie.Need-slice-bounds-copy-end
--- part-copy-end c = search rules
-
 pub copy-requires : goal.copy-requires
 copy-requires c =
     length-take-le 256 c.args.saved.now (omega (arith, c.requires)) ∙ sym (long (goal.at.copy-requires c).Start)
-
--- LEFT part-copy-start-2 : tie.Need-slice-bounds-copy-start-2
--- part-copy-start-2 c = search rules
-
--- LEFT part-copy-end-2 : tie.Need-slice-bounds-copy-end-2
--- part-copy-end-2 c = search rules
 
 pub returns : goal.returns
 unfolding saved_of
 returns c =
     let m = c.args.m in
     rw (c.copy-2.ensures, c.rest_of-rest.ensures)
-    (put_behind 256 m.regs c.copy.new.0 (post_of 0 256 c.args.saved.now) (rest_of m) (long (goal.at.returns c).Start) c.copy.ensures)
+    (put_behind 256 m.regs c.copy.new.to (post_of 0 256 c.args.saved.now) (rest_of m) (long (goal.at.returns c).Start) c.copy.ensures)

@@ -1,4 +1,3 @@
-use borrow.Author.Rules.{rules}
 use Rattle.saved.specs.Saved.{timer_of}
 use Rattle.saved.proofs.timer_of.Goals as goal
 

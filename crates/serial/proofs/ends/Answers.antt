@@ -1,4 +1,3 @@
-use borrow.Author.Rules.{rules}
 use mathlib.Core.Path.{◌≡◌}
 use Rattle.serial.specs.Port.{both, port_ends}
 use Rattle.serial.specs.ForCode.{heard_ends, sent_ends}

@@ -1,4 +1,4 @@
-use Rattle.std.proofs.Common.{arith, rules}
+use Rattle.std.proofs.Common.{arith}
 use Rattle.word.proofs.Bytes.{signed_fits, signed}
 use Rattle.word.proofs.displacement.Goals as goal
 

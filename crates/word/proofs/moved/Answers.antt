@@ -1,4 +1,4 @@
-use Rattle.std.proofs.Common.{◌<◌, arith, rules}
+use Rattle.std.proofs.Common.{◌<◌, arith}
 use Rattle.word.proofs.Bytes.{up_fits, up_positive, up_is, moves}
 use Rattle.word.proofs.moved.Goals as goal
 use Rattle.word.proofs.moved.Goals.{Start}

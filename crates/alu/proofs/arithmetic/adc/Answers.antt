@@ -1,4 +1,3 @@
-use Rattle.std.proofs.Common.{rules}
 use Rattle.alu.specs.Arithmetic.{adc_of}
 use Rattle.alu.proofs.arithmetic.adc.Goals as goal
 

@@ -1,4 +1,3 @@
-use Rattle.std.proofs.Common.{rules}
 use Rattle.alu.specs.Arithmetic.{add_of}
 use Rattle.alu.proofs.arithmetic.add.Goals as goal
 

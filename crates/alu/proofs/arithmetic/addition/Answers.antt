@@ -1,4 +1,4 @@
-use Rattle.std.proofs.Common.{◌≡◌, ◌+◌, ◌/◌, ◌%◌, rules}
+use Rattle.std.proofs.Common.{◌≡◌, ◌+◌, ◌/◌, ◌%◌}
 use Rattle.alu.proofs.Carries.{half_of_sum}
 use Rattle.alu.specs.Arithmetic.{addition_of}
 use Rattle.alu.specs.FlagByte.{packed}

@@ -1,4 +1,4 @@
-use Rattle.std.proofs.Common.{◌≡◌, arith, rules}
+use Rattle.std.proofs.Common.{◌≡◌, arith}
 use Rattle.alu.proofs.Carries.{decw_overflow}
 use Rattle.word.specs.Words.{plus}
 use Rattle.alu.specs.FlagByte.{sign16}

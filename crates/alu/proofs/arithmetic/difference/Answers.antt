@@ -1,4 +1,4 @@
-use Rattle.std.proofs.Common.{refl, rules}
+use Rattle.std.proofs.Common.{refl}
 use Rattle.alu.specs.Arithmetic.{difference_of}
 use Rattle.alu.proofs.arithmetic.difference.Goals as goal
 

@@ -9,9 +9,9 @@ returns c =
     by_bit c.args.dst c.requires.dst_bound
     (λ d.
     by_bit c.args.src c.requires.src_bound
-    (λ s. by_bit c.args.r c.requires.r_bound (λ r. rw (r, s, d) (refl, lit< tt)) (λ r. rw (r, s, d) (refl, lit< tt)))
-    (λ s. by_bit c.args.r c.requires.r_bound (λ r. rw (r, s, d) (refl, lit< tt)) (λ r. rw (r, s, d) (refl, lit< tt))))
+    (λ s. by_bit c.args.r c.requires.r_bound (λ r. rw (r, s, d) record { is = refl; bit = lit< tt }) (λ r. rw (r, s, d) record { is = refl; bit = lit< tt }))
+    (λ s. by_bit c.args.r c.requires.r_bound (λ r. rw (r, s, d) record { is = refl; bit = lit< tt }) (λ r. rw (r, s, d) record { is = refl; bit = lit< tt })))
     (λ d.
     by_bit c.args.src c.requires.src_bound
-    (λ s. by_bit c.args.r c.requires.r_bound (λ r. rw (r, s, d) (refl, lit< tt)) (λ r. rw (r, s, d) (refl, lit< tt)))
-    (λ s. by_bit c.args.r c.requires.r_bound (λ r. rw (r, s, d) (refl, lit< tt)) (λ r. rw (r, s, d) (refl, lit< tt))))
+    (λ s. by_bit c.args.r c.requires.r_bound (λ r. rw (r, s, d) record { is = refl; bit = lit< tt }) (λ r. rw (r, s, d) record { is = refl; bit = lit< tt }))
+    (λ s. by_bit c.args.r c.requires.r_bound (λ r. rw (r, s, d) record { is = refl; bit = lit< tt }) (λ r. rw (r, s, d) record { is = refl; bit = lit< tt })))

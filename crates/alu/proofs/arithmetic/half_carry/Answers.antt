@@ -1,4 +1,4 @@
-use Rattle.std.proofs.Common.{◌≡◌, rules}
+use Rattle.std.proofs.Common.{◌≡◌}
 use Rattle.word.specs.Fields.{bit_of}
 use Rattle.alu.specs.ForCode.{half_carry}
 use Rattle.alu.proofs.Carries.{half_bit}

@@ -1,4 +1,4 @@
-use Rattle.std.proofs.Common.{◌≡◌, ◌+◌, ◌%◌, arith, rules}
+use Rattle.std.proofs.Common.{◌≡◌, ◌+◌, ◌%◌, arith}
 use Rattle.alu.proofs.Carries.{inc_overflow}
 use Rattle.alu.specs.FlagByte.{sign8}
 use Rattle.alu.specs.Arithmetic.{inc_of, sum_overflow}

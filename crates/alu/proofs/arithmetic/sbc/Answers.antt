@@ -1,4 +1,3 @@
-use Rattle.std.proofs.Common.{rules}
 use Rattle.alu.specs.Arithmetic.{sbc_of}
 use Rattle.alu.proofs.arithmetic.sbc.Goals as goal
 

@@ -1,4 +1,3 @@
-use Rattle.std.proofs.Common.{rules}
 use Rattle.alu.specs.Arithmetic.{sub_of}
 use Rattle.alu.proofs.arithmetic.sub.Goals as goal
 

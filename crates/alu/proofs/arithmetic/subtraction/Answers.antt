@@ -1,4 +1,4 @@
-use Rattle.std.proofs.Common.{◌≡◌, ◌+◌, ltb, arith, rules}
+use Rattle.std.proofs.Common.{◌≡◌, ◌+◌, ltb, arith}
 use Rattle.alu.proofs.Carries.{half_of_difference}
 use Rattle.word.specs.Choose.{one_if}
 use Rattle.word.specs.Fields.{lower}

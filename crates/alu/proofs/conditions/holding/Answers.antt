@@ -1,6 +1,5 @@
 use Rattle.std.proofs.Common.{◌≡◌, refl, arith}
 use mathlib.Core.Bool.{xor}
-use Rattle.word.proofs.Computed.{last}
 use Rattle.alu.specs.Conditions.{holds_of}
 use Rattle.alu.specs.ForCode.{holding_of}
 use Rattle.alu.proofs.conditions.holding.Goals as goal
@@ -68,5 +67,5 @@ returns-in-14 c = rw c.in-14.is refl
 pub returns-in_default : goal.returns-in_default
 unfolding holding_of holds_of xor
 returns-in_default c =
-    let e : c.args.czsv ≡ 15 = last 0 15 c.args.czsv (omega arith) (omega arith) c.in_default.rest in
+    let e : c.args.czsv ≡ 15 = omega arith in
     rw e refl

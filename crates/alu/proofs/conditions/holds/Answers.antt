@@ -1,4 +1,4 @@
-use Rattle.std.proofs.Common.{◌≡◌, ℕ, ◌*◌, ◌/◌, ◌%◌, ◌^◌, ◌<◌, Bool, false, eqb, get_or, refl, ◌∙◌, arith, rules}
+use Rattle.std.proofs.Common.{◌≡◌, ℕ, ◌*◌, ◌/◌, ◌%◌, ◌^◌, ◌<◌, Bool, false, eqb, get_or, refl, ◌∙◌, arith}
 use mathlib.Core.Bool.{xor}
 use Rattle.word.specs.Fields.{bit_of, upper}
 use Rattle.word.proofs.Computed.{agree2}

@@ -1,4 +1,4 @@
-use Rattle.std.proofs.Common.{◌≡◌, ℕ, ◌&&◌, eqb, leb, refl, arith, rules}
+use Rattle.std.proofs.Common.{◌≡◌, ℕ, ◌&&◌, eqb, leb, refl, arith}
 use Rattle.word.specs.Choose.{pick}
 use Rattle.word.specs.Fields.{upper, lower}
 use Rattle.word.proofs.Computed.{agree3}

@@ -1,4 +1,3 @@
-use Rattle.std.proofs.Common.{rules}
 use Rattle.alu.specs.Decimal.{adjusted_by}
 use Rattle.alu.specs.FlagByte.{packed}
 use Rattle.alu.proofs.decimal.by.Goals as goal

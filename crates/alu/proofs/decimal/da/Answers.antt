@@ -1,4 +1,4 @@
-use Rattle.std.proofs.Common.{◌≡◌, rules, eq-eqb, ne_eqb}
+use Rattle.std.proofs.Common.{◌≡◌, eq-eqb, ne_eqb}
 use Rattle.alu.specs.FlagByte.{flag_c, flag_d, flag_h}
 use Rattle.alu.specs.Decimal.{da_of}
 use Rattle.alu.proofs.decimal.da.Goals as goal

@@ -1,4 +1,3 @@
-use Rattle.std.proofs.Common.{rules}
 use Rattle.alu.specs.Logical.{and_of}
 use Rattle.alu.proofs.logical.and.Goals as goal
 

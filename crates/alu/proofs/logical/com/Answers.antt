@@ -1,4 +1,3 @@
-use Rattle.std.proofs.Common.{rules}
 use Rattle.alu.specs.Logical.{com_of}
 use Rattle.alu.proofs.logical.com.Goals as goal
 

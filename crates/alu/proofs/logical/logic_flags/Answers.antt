@@ -1,4 +1,3 @@
-use Rattle.std.proofs.Common.{rules}
 use Rattle.alu.specs.Logical.{logic_flags}
 use Rattle.alu.specs.FlagByte.{packed}
 use Rattle.alu.proofs.logical.logic_flags.Goals as goal

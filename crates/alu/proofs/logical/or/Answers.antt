@@ -1,4 +1,3 @@
-use Rattle.std.proofs.Common.{rules}
 use Rattle.alu.specs.Logical.{or_of}
 use Rattle.alu.proofs.logical.or.Goals as goal
 

@@ -1,4 +1,3 @@
-use Rattle.std.proofs.Common.{rules}
 use Rattle.alu.specs.Logical.{tcm_of}
 use Rattle.alu.proofs.logical.tcm.Goals as goal
 

@@ -1,4 +1,3 @@
-use Rattle.std.proofs.Common.{rules}
 use Rattle.alu.specs.Logical.{tm_of}
 use Rattle.alu.proofs.logical.tm.Goals as goal
 

@@ -1,4 +1,3 @@
-use Rattle.std.proofs.Common.{rules}
 use Rattle.alu.specs.Logical.{xor_of}
 use Rattle.alu.proofs.logical.xor.Goals as goal
 

@@ -1,4 +1,3 @@
-use Rattle.std.proofs.Common.{rules}
 use Rattle.alu.specs.Rotate.{rl_of}
 use Rattle.alu.proofs.rotate.rl.Goals as goal
 

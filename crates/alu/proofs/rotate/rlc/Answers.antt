@@ -1,4 +1,3 @@
-use Rattle.std.proofs.Common.{rules}
 use Rattle.alu.specs.Rotate.{rlc_of}
 use Rattle.alu.proofs.rotate.rlc.Goals as goal
 

@@ -1,4 +1,3 @@
-use Rattle.std.proofs.Common.{rules}
 use Rattle.alu.specs.Rotate.{rotate_flags}
 use Rattle.alu.specs.FlagByte.{packed}
 use Rattle.alu.proofs.rotate.rotate_flags.Goals as goal

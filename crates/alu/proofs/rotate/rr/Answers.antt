@@ -1,4 +1,3 @@
-use Rattle.std.proofs.Common.{rules}
 use Rattle.alu.specs.Rotate.{rr_of}
 use Rattle.alu.proofs.rotate.rr.Goals as goal
 

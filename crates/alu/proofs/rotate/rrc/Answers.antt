@@ -1,4 +1,3 @@
-use Rattle.std.proofs.Common.{rules}
 use Rattle.alu.specs.Rotate.{rrc_of}
 use Rattle.alu.proofs.rotate.rrc.Goals as goal
 

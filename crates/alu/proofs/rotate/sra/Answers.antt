@@ -1,4 +1,3 @@
-use Rattle.std.proofs.Common.{rules}
 use Rattle.alu.specs.Rotate.{sra_of}
 use Rattle.alu.specs.FlagByte.{packed}
 use Rattle.alu.proofs.rotate.sra.Goals as goal

@@ -1,4 +1,3 @@
-use Rattle.std.proofs.Common.{rules}
 use Rattle.alu.specs.Rotate.{swap_of}
 use Rattle.alu.specs.FlagByte.{packed}
 use Rattle.alu.proofs.rotate.swap.Goals as goal

@@ -1,4 +1,3 @@
-use borrow.Author.Rules.{rules}
 use Rattle.machine.specs.Start.{default_of}
 use Rattle.machine.proofs.Machine.default.Goals as goal
 

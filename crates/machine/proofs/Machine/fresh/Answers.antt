@@ -1,7 +1,6 @@
-use borrow.Author.Rules.{rules}
 use Rattle.machine.specs.Start.{new_of}
 use Rattle.machine.proofs.Machine.fresh.Goals as goal
 
 pub returns : goal.returns
 unfolding new_of
-returns c = c.Started-with.ensures
+returns c = c.started_with.ensures

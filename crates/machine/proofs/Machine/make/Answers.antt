@@ -1,5 +1,4 @@
 use mathlib.Core.Bool.{◌&&◌}
-use borrow.Author.Rules.{rules}
 use native.Mathlib.Omega.{arith}
 use Rattle.machine.specs.Start.{made_of, is_kind, is_cost}
 use lib.Dec.{T}

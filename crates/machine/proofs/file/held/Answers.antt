@@ -1,5 +1,4 @@
 use mathlib.Core.Path.{refl}
-use borrow.Author.Rules.{rules}
 use Rattle.machine.specs.State.{held_in}
 use Rattle.machine.proofs.file.held.Goals as goal
 

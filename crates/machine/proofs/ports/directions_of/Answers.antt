@@ -1,4 +1,3 @@
-use borrow.Author.Rules.{rules}
 use Rattle.machine.specs.Ports.{directions_of}
 use Rattle.machine.proofs.Choices.{last_port}
 use Rattle.machine.proofs.ports.directions_of.Goals as goal
@@ -17,4 +16,4 @@ returns-in-2 c = rw (c.port2_lines.ensures, c.in-2.is)
 
 pub returns-in_default : goal.returns-in_default
 unfolding directions_of
-returns-in_default c = rw c.port3_lines.ensures (last_port _ _ _ _ _ c.in_default.rest.0.0.1 c.in_default.rest.0.1 c.in_default.rest.1)
+returns-in_default c = rw c.port3_lines.ensures (last_port _ _ _ _ _ c.in_default.in_default-own.rest.0.0.1 c.in_default.in_default-own.rest.0.1 c.in_default.in_default-own.rest.1)

@@ -1,4 +1,3 @@
-use borrow.Author.Rules.{rules}
 use Rattle.machine.specs.Ports.{port0_directions}
 use Rattle.machine.proofs.ports.port0_lines.Goals as goal
 

@@ -1,4 +1,3 @@
-use borrow.Author.Rules.{rules}
 use Rattle.machine.specs.Ports.{port1_directions}
 use Rattle.machine.proofs.ports.port1_lines.Goals as goal
 

@@ -1,4 +1,3 @@
-use borrow.Author.Rules.{rules}
 use Rattle.machine.specs.Ports.{port_reads}
 use Rattle.machine.proofs.ports.reads.Goals as goal
 

@@ -1,4 +1,3 @@
-use borrow.Author.Rules.{rules}
 use Rattle.machine.specs.Ports.{port_stores}
 use Rattle.machine.proofs.ports.stores.Goals as goal
 

@@ -1,7 +1,6 @@
-use borrow.Author.Rules.{rules}
 use Rattle.machine.specs.Start.{reset_of}
 use Rattle.machine.proofs.start.reset.Goals as goal
 
 pub returns : goal.returns
 unfolding reset_of
-returns c = c.Started-with.ensures
+returns c = c.started_with.ensures

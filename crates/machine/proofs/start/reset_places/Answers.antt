@@ -1,4 +1,3 @@
-use borrow.Author.Rules.{rules}
 use Rattle.machine.specs.Start.{reset_places}
 use Rattle.machine.proofs.start.reset_places.Goals as goal
 

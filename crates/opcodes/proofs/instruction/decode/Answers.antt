@@ -1,4 +1,3 @@
-use borrow.Author.Rules.{rules}
 use mathlib.Core.Path.{sym, ◌∙◌}
 use Rattle.opcodes.proofs.Cells.{decoded_where, decoded_where_not}
 use Rattle.opcodes.proofs.instruction.decode.Goals as goal

@@ -1,4 +1,3 @@
-use borrow.Author.Rules.{rules}
 use mathlib.Core.Path.{◌≡◌}
 use mathlib.Core.Bool.{Bool, true, false, ◌&&◌}
 use lib.Dec.{eqb}
@@ -8,7 +7,7 @@ use Rattle.opcodes.proofs.instruction.encode.Goals.{After-operand-own_second}
 
 -- whether it is an instruction, as the code asks
 abbrev asked : After-operand-own_second → Bool
-asked s = s.before.before.before.is-defined.result && (eqb s.before.operand.result s.before.before.before.before.args.first && eqb s.operand2.result s.before.before.before.before.args.second)
+asked s = s.is_defined-defined.result && (eqb s.operand-own_first.result s.args.first && eqb s.operand-own_second.result s.args.second)
 
 pub returns-then-defined-own_first : goal.returns-then-defined-own_first
 unfolding encode_of

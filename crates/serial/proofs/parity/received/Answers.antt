@@ -1,4 +1,3 @@
-use borrow.Author.Rules.{rules}
 use mathlib.Core.Path.{◌≡◌}
 use mathlib.Core.Bool.{not}
 use Rattle.serial.specs.Parity.{is_odd, with_bit7, received_byte}

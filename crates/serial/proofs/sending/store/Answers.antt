@@ -1,4 +1,3 @@
-use borrow.Author.Rules.{rules}
 use mathlib.Core.Path.{◌≡◌}
 use Rattle.serial.specs.Parity.{sent_bits}
 use Rattle.serial.specs.Transmitter.{stored}

@@ -1,4 +1,3 @@
-use borrow.Author.Rules.{rules}
 use Rattle.timers.proofs.Ends.{ends_apart}
 use Rattle.timers.proofs.clock.ended.Goals as goal
 

@@ -1,4 +1,3 @@
-use borrow.Author.Rules.{rules}
 use Rattle.timers.proofs.Cycles.{ticks_apart}
 use Rattle.timers.proofs.clock.tick_both.Goals as goal
 

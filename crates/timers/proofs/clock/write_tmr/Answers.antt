@@ -1,4 +1,3 @@
-use borrow.Author.Rules.{rules}
 use Rattle.timers.specs.Clock.{written}
 use Rattle.timers.proofs.clock.write_tmr.Goals as goal
 

@@ -1,4 +1,3 @@
-use borrow.Author.Rules.{rules}
 use Rattle.timers.specs.Control.{mode_of}
 use Rattle.timers.proofs.registers.port_mode.Goals as goal
 

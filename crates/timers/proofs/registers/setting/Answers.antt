@@ -1,4 +1,3 @@
-use borrow.Author.Rules.{rules}
 use Rattle.timers.specs.Control.{setting_of}
 use Rattle.timers.proofs.registers.setting.Goals as goal
 

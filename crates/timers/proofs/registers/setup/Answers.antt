@@ -1,4 +1,3 @@
-use borrow.Author.Rules.{rules}
 use Rattle.timers.specs.Control.{setup_of}
 use Rattle.timers.proofs.registers.setup.Goals as goal
 

@@ -1,7 +1,5 @@
-use borrow.Author.Rules.{rules}
-use borrow.Author.Tests.{not-true, not-false}
 use mathlib.Core.Path.{◌≡◌, refl, sym}
-use mathlib.Core.Bool.{true, false, not}
+use mathlib.Core.Bool.{true}
 use Prim.Native.Nat.{◌*◌, ◌%◌, ◌^◌}
 use Rattle.word.proofs.Computed.{agree}
 use Rattle.timers.specs.Requests.{latch}
@@ -11,14 +9,12 @@ use Rattle.timers.proofs.requests.latch.Goals as goal
 pub returns-then-not-released : goal.returns-then-not-released
 returns-then-not-released c =
     let a = c.args in
-    let test : not a.r.released ≡ true = c.if-not-released.true in
-    sym (held_latch a.n a.r (not-true a.r.released test))
+    sym (held_latch a.n a.r c.if-not-released.true)
 
 pub returns : goal.returns
 unfolding latch
 returns c =
     let a = c.args in
-    let test : not a.r.released ≡ false = c.if-not-released.false in
-    let released : a.r.released ≡ true = not-false a.r.released test in
+    let released : a.r.released ≡ true = c.if-not-released.false in
     let bit : 1 * 2 ^ a.n % 256 ≡ 2 ^ a.n = agree (λ n. 1 * 2 ^ n % 256) (λ n. 2 ^ n) 6 refl a.n c.requires in
     simp (released, bit)

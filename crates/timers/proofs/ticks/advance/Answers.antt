@@ -5,7 +5,6 @@ use mathlib.Core.Bool.{true, false}
 use Prim.Native.Nat.{◌-◌, ◌*◌, ◌≤◌, ◌<◌}
 use native.Mathlib.Nat.{mod-lt, mul-pos, div-le_self}
 use native.Mathlib.Omega.{arith}
-use borrow.Author.Tests.{not-true, not-false}
 use Rattle.timers.specs.Timer.{moves}
 use Rattle.timers.proofs.ticks.advance.Goals as goal
 use Rattle.timers.proofs.ticks.advance.Goals.{Else-past-left, Else-short, Start}
@@ -44,19 +43,19 @@ returns-then-past-left c =
     let st = begun (goal.at.returns-then-past-left c).Else-short in
     let a = st.args in
     let within : a.k - a.c.timer.prescaler < a.s.p * (a.c.timer.counter - 1) = rw c.ticks_in-left.ensures at c.if-past-left.true in
-    rw c.down-counting.ensures (sym (ticks_within a.by a.s a.c (far (goal.at.returns-then-past-left c).Else-short).0 a.k st.pre.0 st.pre.1 (far (goal.at.returns-then-past-left c).Else-short).1 within))
+    rw c.down-counting.ensures (sym (ticks_within a.by a.s a.c (far (goal.at.returns-then-past-left c).Else-short).0 a.k st.requires.legal_setup st.requires.legal_counting (far (goal.at.returns-then-past-left c).Else-short).1 within))
 
 pub returns-then-not-repeats : goal.returns-then-not-repeats
 returns-then-not-repeats c =
     let a = c.args in
-    let single : a.s.repeats ≡ false = not-true _ c.if-not-repeats.true in
+    let single : a.s.repeats ≡ false = c.if-not-repeats.true in
     rw c.stopped-counting.ensures (sym (ticks_stops a.by a.s a.c (far (many (goal.at.returns-then-not-repeats c).Else-past-left)).0 a.k c.requires.legal_setup c.requires.legal_counting (far (many (goal.at.returns-then-not-repeats c).Else-past-left)).1 (past_end (goal.at.returns-then-not-repeats c).Else-past-left) single))
 
--- LEFT rem-rest : tie.Need-nonzero-rem-rest
--- rem-rest c = rw c.ticks-in2.ensures (mul-pos c.before.before.before.before.before.before.before.requires.0.p_low (search rules))
+pub nonzero_rem-rest : goal.nonzero_rem-rest
+nonzero_rem-rest c = rw c.ticks_in-whole.ensures (mul-pos c.requires.legal_setup.p_low (search rules))
 
--- LEFT div-later : tie.Need-nonzero-div-later
--- div-later c = rw c.ticks-in2.ensures (mul-pos c.before.before.before.before.before.before.before.requires.0.p_low (search rules))
+pub nonzero_div-later : goal.nonzero_div-later
+nonzero_div-later c = rw c.ticks_in-whole.ensures (mul-pos c.requires.legal_setup.p_low (search rules))
 
 pub overflow_add-ends : goal.overflow_add-ends
 overflow_add-ends c =
@@ -73,6 +72,6 @@ down-counting-requires-2 c =
 pub returns : goal.returns
 returns c =
     let a = c.args in
-    let repeating : a.s.repeats ≡ true = not-false _ c.if-not-repeats.false in
+    let repeating : a.s.repeats ≡ true = c.if-not-repeats.false in
     rw c.down-counting-2.ensures
     (sym (ticks_repeats a.by a.s a.c (far (many (goal.at.returns c).Else-past-left)).0 a.k c.requires.legal_setup c.requires.legal_counting (far (many (goal.at.returns c).Else-past-left)).1 (past_end (goal.at.returns c).Else-past-left) repeating _ _ (rw c.ticks_in-left.ensures) c.ticks_in-whole.ensures))

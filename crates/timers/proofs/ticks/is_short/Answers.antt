@@ -1,4 +1,3 @@
-use borrow.Author.Rules.{rules}
 use Rattle.timers.specs.ForCode.{is_short}
 use Rattle.timers.proofs.ticks.is_short.Goals as goal
 
