@@ -1,0 +1,12 @@
+use Rattle.machine.specs.Stack.{pushed_internal}
+use Rattle.machine.specs.State.{placed}
+use Rattle.registers.proofs.stack.push_internal.Goals as goal
+
+pub returns : goal.returns
+unfolding pushed_internal placed
+returns c =
+    let spl-put = c.place.ensures in
+    let lowered = c.wrapping_add_u8-sp.ensures.value in
+    let old-spl = c.held-spl.ensures in
+    let how-many = c.count_of-n.ensures.0 in
+    rw (c.write_from.ensures, spl-put, lowered, old-spl, how-many)
