@@ -1,5 +1,5 @@
 -- Edges and a grant before the first EI (02, C-13): compared pins and an entry release nothing, and held, IRQ stays zero.
-use mathlib.Core.Path.{◌≡◌, ◌∙◌, refl, sym, subst, ap}
+use mathlib.Core.Path.{◌≡◌, ◌∙◌}
 use mathlib.Core.Bool.{Bool, not, false, ◌&&◌}
 use mathlib.Core.List.{List}
 use Prim.Native.Nat.{ℕ, ◌<◌}
@@ -8,10 +8,9 @@ use Rattle.word.proofs.Computed.{by_test}
 use Rattle.timers.specs.Requests.{latched_if}
 use Rattle.timers.specs.Control.{setting_of}
 use Rattle.timers.specs.declared.RequestRegister.{RequestRegister}
-use Rattle.timers.specs.declared.Moving.{Moving}
 use Rattle.timers.specs.declared.Spanned.{Spanned}
 use Rattle.timers.proofs.Latched.{fits_zero}
-use Rattle.timers.proofs.Held.{Holds, holds_itself, holds_on, if_holds, edge_holds}
+use Rattle.timers.proofs.Held.{Holds, holds_on, if_holds, edge_holds}
 use Rattle.machine.specs.Names.{IRQ}
 use Rattle.machine.specs.State.{held, placed, with_pc, with_last3, with_released, with_port}
 use Rattle.machine.specs.Clock.{control_of, moving_of, counts_at, moved_to}
@@ -20,7 +19,6 @@ use Rattle.machine.specs.Legal.{Legal}
 use Rattle.machine.specs.declared.Machine.{Machine}
 use Rattle.machine.specs.declared.Bytes.TheVariants.{Three}
 use Rattle.machine.proofs.Whole.{push_keeps}
-use Rattle.serial.specs.declared.Mode.{Mode}
 use Rattle.deeds.specs.Modes.{flags_of}
 use Rattle.execute.specs.Doing.{interrupts_to}
 use Rattle.interrupts.specs.Edges.{fell, latched_by, with_edges, moved_by_edges, compared_of}

@@ -18,7 +18,6 @@ use Rattle.machine.specs.State.{held, placed, with_pc}
 use Rattle.machine.specs.Clock.{control_of, moving_of}
 use Rattle.machine.specs.Serial.{port_mode}
 use Rattle.machine.specs.Legal.{Legal}
-use Rattle.serial.specs.declared.Mode.{Mode}
 use Rattle.machine.specs.declared.Machine.{Machine}
 use Rattle.machine.specs.declared.Bytes.TheVariants.{Three}
 use Rattle.machine.proofs.Legal.{fits_may, placed_legal, pc_legal, last3_legal, moved_legal, setting_of_lem, pushed_legal, program_byte_lem}

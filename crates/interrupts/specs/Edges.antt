@@ -3,7 +3,6 @@ use Rattle.std.specs.Prelude.{Bool, not, ◌&&◌, ℕ}
 use Rattle.word.specs.Choose.{pick}
 use Rattle.word.specs.Fields.{is_set}
 use Rattle.serial.specs.Receiver.{started}
-use Rattle.serial.specs.declared.Mode.{Mode}
 use Rattle.serial.specs.declared.Port.{Port}
 use Rattle.timers.specs.Requests.{latched_if}
 use Rattle.timers.specs.Control.{setting_of}

@@ -1,4 +1,3 @@
-use Rattle.std.proofs.Common.{rules}
 use Rattle.execute.specs.Execute.{code_at}
 use Rattle.execute.proofs.fetch.Goals as goal
 

@@ -1,4 +1,4 @@
-use Rattle.std.proofs.Common.{ap, rules}
+use Rattle.std.proofs.Common.{ap}
 use Rattle.machine.specs.State.{with_pc}
 use Rattle.lent.specs.View.{Left, left}
 use Rattle.execute.specs.Doing.{called}

@@ -1,4 +1,3 @@
-use Rattle.std.proofs.Common.{rules}
 use Rattle.execute.specs.Doing.{pair_counted_up, counted_up}
 use Rattle.execute.proofs.doing.count_up.Goals as goal
 

@@ -1,4 +1,3 @@
-use Rattle.std.proofs.Common.{rules}
 use Rattle.execute.specs.Doing.{interrupts_enabled}
 use Rattle.execute.proofs.doing.enable_interrupts.Goals as goal
 

@@ -1,4 +1,3 @@
-use Rattle.std.proofs.Common.{rules}
 use Rattle.execute.specs.Doing.{flagged}
 use Rattle.machine.specs.State.{placed}
 use Rattle.execute.proofs.doing.lay.Goals as goal

@@ -1,4 +1,3 @@
-use Rattle.std.proofs.Common.{rules}
 use Rattle.execute.specs.Doing.{stored_at}
 use Rattle.execute.proofs.doing.store.Goals as goal
 

@@ -1,4 +1,3 @@
-use borrow.Author.Rules.{rules}
 use Rattle.interrupts.specs.ForCode.{any_fell}
 use mathlib.Core.Path.{refl}
 use Rattle.interrupts.proofs.edges.any_fell.Goals as goal

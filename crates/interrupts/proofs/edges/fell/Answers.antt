@@ -1,4 +1,3 @@
-use borrow.Author.Rules.{rules}
 use Rattle.interrupts.specs.Edges.{fell}
 use Rattle.interrupts.proofs.edges.fell.Goals as goal
 

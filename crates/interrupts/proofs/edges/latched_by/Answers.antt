@@ -1,4 +1,3 @@
-use borrow.Author.Rules.{rules}
 use Rattle.interrupts.specs.Edges.{latched_by}
 use Rattle.interrupts.proofs.edges.latched_by.Goals as goal
 

@@ -1,4 +1,3 @@
-use borrow.Author.Rules.{rules}
 use mathlib.Core.Path.{◌≡◌}
 use Rattle.interrupts.specs.Edges.{latched_by, moved_by_edges}
 use Rattle.interrupts.proofs.Latches.{edges_legal_moving}

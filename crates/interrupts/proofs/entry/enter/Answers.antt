@@ -1,4 +1,3 @@
-use borrow.Author.Rules.{rules}
 use Rattle.machine.specs.State.{placed}
 use Rattle.interrupts.proofs.Entries.{entered_is}
 use Rattle.interrupts.proofs.entry.enter.Goals as goal

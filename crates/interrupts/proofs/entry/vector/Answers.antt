@@ -1,4 +1,3 @@
-use borrow.Author.Rules.{rules}
 use Rattle.interrupts.specs.Entry.{vector_of}
 use Rattle.interrupts.proofs.entry.vector.Goals as goal
 

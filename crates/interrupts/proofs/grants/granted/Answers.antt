@@ -1,4 +1,3 @@
-use borrow.Author.Rules.{rules}
 use mathlib.Core.Path.{◌≡◌, sym, ◌∙◌, ap}
 use Rattle.interrupts.specs.ForCode.{standing_of}
 use Rattle.interrupts.specs.Grants.{priorities, first_standing}

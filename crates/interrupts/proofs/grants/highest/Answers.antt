@@ -1,4 +1,3 @@
-use borrow.Author.Rules.{rules}
 use Rattle.interrupts.specs.Grants.{ordered, priorities, first_standing, group_a, group_b, group_c, group_order}
 use Rattle.interrupts.proofs.Orders.{first_of_three, unused}
 use mathlib.Core.Path.{◌≡◌, sym}
@@ -51,4 +50,4 @@ returns-in-6 c =
 
 pub returns-in_default : goal.returns-in_default
 unfolding priorities first_standing
-returns-in_default c = rw (← c.group_order-order.ensures.0, unused _ _ _ _ c.group_order-order.ensures.1 c.in_default.rest)
+returns-in_default c = rw (← c.group_order-order.ensures.0, unused _ _ _ _ c.group_order-order.ensures.1 c.in_default.in_default-own.rest)

@@ -1,4 +1,3 @@
-use borrow.Author.Rules.{rules}
 use Rattle.interrupts.specs.Grants.{group_a}
 use Rattle.interrupts.proofs.grants.of_group_a.Goals as goal
 

@@ -1,4 +1,3 @@
-use borrow.Author.Rules.{rules}
 use Rattle.interrupts.specs.Grants.{group_b}
 use Rattle.interrupts.proofs.grants.of_group_b.Goals as goal
 

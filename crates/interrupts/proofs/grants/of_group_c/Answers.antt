@@ -1,4 +1,3 @@
-use borrow.Author.Rules.{rules}
 use Rattle.interrupts.specs.Grants.{group_c}
 use Rattle.interrupts.proofs.grants.of_group_c.Goals as goal
 

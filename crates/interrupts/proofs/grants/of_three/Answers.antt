@@ -1,4 +1,3 @@
-use borrow.Author.Rules.{rules}
 use Rattle.interrupts.proofs.grants.of_three.Goals as goal
 
 pub returns : goal.returns

@@ -1,4 +1,3 @@
-use borrow.Author.Rules.{rules}
 use Rattle.interrupts.specs.Grants.{first_standing}
 use Rattle.interrupts.proofs.grants.of_two.Goals as goal
 

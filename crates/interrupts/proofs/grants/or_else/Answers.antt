@@ -1,11 +1,10 @@
-use borrow.Author.Rules.{rules}
 use Rattle.interrupts.specs.ForCode.{or_else}
 use Rattle.interrupts.proofs.grants.or_else.Goals as goal
 
 pub returns-in-Nothing : goal.returns-in-Nothing
 unfolding or_else
-returns-in-Nothing c = rw c.in-Nothing.is.1
+returns-in-Nothing c = rw c.in-Nothing.is
 
 pub returns-in-Request : goal.returns-in-Request
 unfolding or_else
-returns-in-Request c = rw c.in-Request.n.1
+returns-in-Request c = rw c.in-Request.is

@@ -14,11 +14,11 @@ low_below s = search rules
 
 pub returns-in-0 : goal.returns-in-0
 unfolding column_at operands_of from_register one_at
-returns-in-0 c = record { value = rw (c.register-dst.ensures, c.match.keys1) refl; next = rw c.match.keys1 c.at.ensures }
+returns-in-0 c = record { value = rw (c.register-dst.ensures, c.in-0.is) refl; next = rw c.in-0.is c.at.ensures }
 
 pub returns-in-1 : goal.returns-in-1
 unfolding column_at operands_of from_register one_at
-returns-in-1 c = record { value = rw (c.indirect-dst.ensures, c.match.keys2) refl; next = rw c.match.keys2 c.at2.ensures }
+returns-in-1 c = record { value = rw (c.indirect-dst.ensures, c.in-1.is) refl; next = rw c.in-1.is c.at-in-1.ensures }
 
 pub returns-in-2 : goal.returns-in-2
 unfolding column_at operands_of from_register one_at
@@ -46,11 +46,11 @@ returns-in-5 c =
 
 pub returns-in-6 : goal.returns-in-6
 unfolding column_at operands_of from_register one_at
-returns-in-6 c = record { value = rw (c.register-dst-in-6.ensures, c.match.keys7) refl; next = rw c.match.keys7 c.at7.ensures }
+returns-in-6 c = record { value = rw (c.register-dst-in-6.ensures, c.in-6.is) refl; next = rw c.in-6.is c.at-in-6.ensures }
 
 pub returns-in-7 : goal.returns-in-7
 unfolding column_at operands_of from_register one_at
-returns-in-7 c = record { value = rw (c.indirect-dst-in-7.ensures, c.match.keys8) refl; next = rw c.match.keys8 c.at8.ensures }
+returns-in-7 c = record { value = rw (c.indirect-dst-in-7.ensures, c.in-7.is) refl; next = rw c.in-7.is c.at-in-7.ensures }
 
 pub returns-in-8 : goal.returns-in-8
 unfolding column_at operands_of from_register one_at
@@ -66,7 +66,7 @@ returns-in-9 c =
 
 pub returns-in-10 : goal.returns-in-10
 unfolding column_at operands_of from_register one_at
-returns-in-10 c = record { value = rw (c.working-dst-in-10.ensures, c.match.keys11) refl; next = rw c.match.keys11 c.at11.ensures }
+returns-in-10 c = record { value = rw (c.working-dst-in-10.ensures, c.in-10.is) refl; next = rw c.in-10.is c.at-in-10.ensures }
 
 pub returns-in-11 : goal.returns-in-11
 unfolding column_at operands_of from_register one_at
@@ -74,7 +74,7 @@ returns-in-11 c = record { value = rw c.in-11.is refl; next = rw c.in-11.is c.at
 
 pub returns-in-12 : goal.returns-in-12
 unfolding column_at operands_of from_register one_at
-returns-in-12 c = record { value = rw (c.working-dst-in-12.ensures, c.match.keys13) refl; next = rw c.match.keys13 c.at13.ensures }
+returns-in-12 c = record { value = rw (c.working-dst-in-12.ensures, c.in-12.is) refl; next = rw c.in-12.is c.at-in-12.ensures }
 
 pub returns-in-13 : goal.returns-in-13
 unfolding column_at operands_of from_register one_at
@@ -82,11 +82,11 @@ returns-in-13 c = record { value = rw c.in-13.is refl; next = rw c.in-13.is c.at
 
 pub returns-in-14 : goal.returns-in-14
 unfolding column_at operands_of from_register one_at
-returns-in-14 c = record { value = rw (c.working-dst-in-14.ensures, c.match.keys15) refl; next = rw c.match.keys15 c.at15.ensures }
+returns-in-14 c = record { value = rw (c.working-dst-in-14.ensures, c.in-14.is) refl; next = rw c.in-14.is c.at-in-14.ensures }
 
 pub returns-in_default : goal.returns-in_default
 unfolding column_at operands_of from_register one_at
 returns-in_default c =
     let low = lower c.args.i.op in
-    let is : low ≡ 15 = last 0 15 low (omega arith) (low_below (goal.at.returns-in_default c).Start) c.in_default.rest in
+    let is : low ≡ 15 = last 0 15 low (omega arith) (low_below (goal.at.returns-in_default c).Start) c.in_default.in_default-own.rest in
     record { value = rw is refl; next = rw is c.at-in_default.ensures }
