@@ -18,7 +18,7 @@ row_below : (s : Start) → upper s.args.i.op < 16
 row_below s = search rules
 
 pub returns-then-lo-eq0 : goal.returns-then-lo-eq0
-returns-then-lo-eq0 c = rw (c.set_pc.ensures, c.read-pair.ensures) (jp_pair_arm _ _ c.before.before.before.before.before.before.before.before.before.before.before.before.before.before.before.requires (omega arith))
+returns-then-lo-eq0 c = rw (c.set_pc.ensures, c.read_pair-to.ensures) (jp_pair_arm _ _ c.requires (omega arith))
 
 pub returns-in-0 : goal.returns-in-0
 unfolding entry_of opcode_map length_of unary_of
@@ -36,10 +36,10 @@ returns-in-2 c =
     rw (c.store-in-2.ensures, c.inc-r.ensures, c.read-was.ensures) (unary_arm _ _ c.requires unary.Inc 2 c.in-2.is refl)
 
 pub returns-else-lo-eq0 : goal.returns-else-lo-eq0
-returns-else-lo-eq0 c = rw c.write.ensures (srp_arm _ _ c.before.before.before.before.before.before.before.before.before.before.before.before.requires (omega arith))
+returns-else-lo-eq0 c = rw c.write.ensures (srp_arm _ _ c.requires (omega arith))
 
 pub returns-in-4 : goal.returns-in-4
-returns-in-4 c = rw c.da.ensures (da_arm _ _ c.before.before.before.before.before.before.before.before.before.before.before.requires c.in-4.is)
+returns-in-4 c = rw c.da.ensures (da_arm _ _ c.requires c.in-4.is)
 
 pub returns-in-5 : goal.returns-in-5
 unfolding popped
@@ -49,7 +49,7 @@ returns-in-5 c =
 pub returns-in-6 : goal.returns-in-6
 unfolding entry_of opcode_map length_of unary_of
 returns-in-6 c =
-    rw (c.store-in-6.ensures, (goal.at.returns-in-6 c).After-com-r.«com».ensures, c.read-was.ensures) (unary_arm _ _ c.requires unary.Com 6 c.in-6.is refl)
+    rw (c.store-in-6.ensures, (goal.at.returns-in-6 c).After-com-r.com-r.ensures, c.read-was.ensures) (unary_arm _ _ c.requires unary.Com 6 c.in-6.is refl)
 
 pub returns-in-7 : goal.returns-in-7
 returns-in-7 c =
@@ -59,7 +59,7 @@ returns-in-7 c =
 pub returns-in-8 : goal.returns-in-8
 unfolding entry_of opcode_map length_of paired_of
 returns-in-8 c =
-    rw (c.Store-word.ensures, c.decw-r.ensures, c.read_pair-pair.ensures) (paired_arm _ _ c.requires paired.Decw 8 c.in-8.is refl)
+    rw (c.store_word.ensures, c.decw-r.ensures, c.read_pair-pair.ensures) (paired_arm _ _ c.requires paired.Decw 8 c.in-8.is refl)
 
 pub returns-in-9 : goal.returns-in-9
 unfolding entry_of opcode_map length_of unary_of
@@ -72,7 +72,7 @@ returns-in-10 c =
     rw (c.store_word-in-10.ensures, c.incw-r.ensures, c.read_pair-pair-in-10.ensures) (paired_arm _ _ c.requires paired.Incw 10 c.in-10.is refl)
 
 pub returns-in-11 : goal.returns-in-11
-returns-in-11 c = rw c.write-in-11.ensures (clr_arm _ _ c.before.before.before.before.before.before.before.before.before.before.before.requires c.in-11.is)
+returns-in-11 c = rw c.write-in-11.ensures (clr_arm _ _ c.requires c.in-11.is)
 
 pub returns-in-12 : goal.returns-in-12
 unfolding entry_of opcode_map length_of unary_of
@@ -92,5 +92,5 @@ returns-in-14 c =
 pub returns-in_default : goal.returns-in_default
 unfolding entry_of opcode_map length_of unary_of
 returns-in_default c =
-    let row = last 0 15 (upper c.args.i.op) (omega arith) (row_below (goal.at.returns-in_default c).Start) c.in_default.rest in
+    let row = last 0 15 (upper c.args.i.op) (omega arith) (row_below (goal.at.returns-in_default c).Start) c.in_default.in_default-own.rest in
     rw (c.store-in_default.ensures, c.swap-r.ensures, c.read-was.ensures) (unary_arm _ _ c.requires unary.Swap 15 row refl)

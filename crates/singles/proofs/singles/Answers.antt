@@ -6,24 +6,15 @@ use Rattle.lent.specs.View.{machine_in}
 use Rattle.operands.proofs.Arms.{blank_is_refused}
 use Rattle.singles.proofs.Arms.{Ready, lde_in, ldei_in, lde_out, ldei_out, ldc_in, ldci_in, ld_from_index, ldc_out, ldci_out, ld_to_index, ld_ind_work, ld_ind_reg, call_direct_arm, call_pair_arm, single_blank}
 use Rattle.singles.proofs.singles.Goals as goal
-use Rattle.singles.proofs.singles.Goals.{After-read_pair-pointed, After-working-r, After-working-x, Start}
+use Rattle.singles.proofs.singles.Goals.{After-read_pair-pointed, Start}
 
 -- before the match: the start, and what the three reads gave
 module _ (s : After-read_pair-pointed) where
-  abbrev pair : After-working-x
-  pair = s.before.before.before
-
-  abbrev register : After-working-r
-  register = pair.before.before.before.before
-
-  abbrev start : Start
-  start = register.before.before.before.before.before.before
-
   abbrev given : Machine
-  given = machine_in start.args.regs.now start.args.rest.now
+  given = machine_in s.args.regs.now s.args.rest.now
 
-  ready : Ready start.args.pins given start.args.pc start.args.i register.working-r.result pair.working-x.result s.read_pair-pointed.result
-  ready = record { asked = start.requires; register = register.working-r.ensures; pair = pair.working-x.ensures; pointed = s.read_pair-pointed.ensures }
+  ready : Ready s.args.pins given s.args.pc s.args.i s.working-r.result s.working-x.result s.read_pair-pointed.result
+  ready = record { asked = s.requires; register = s.working-r.ensures; pair = s.working-x.ensures; pointed = s.read_pair-pointed.ensures }
 
 op-below : (s : Start) → s.args.i.op < 256
 op-below s = search rules
@@ -89,6 +80,6 @@ returns-in-245 c =
 pub returns-in_default : goal.returns-in_default
 unfolding entry_of opcode_map
 returns-in_default c =
-    let begun = start (goal.at.returns-in_default c).After-read_pair-pointed in
+    let begun = (goal.at.returns-in_default c).Start in
     rw (c.refused.ensures.value, c.refused.ensures.back)
-    (blank_is_refused _ _ _ _ _ _ (single_blank begun.args.i.op (op-below begun) begun.pre.low begun.pre.high begun.pre.row c.in_default.rest))
+    (blank_is_refused _ _ _ _ _ _ (single_blank begun.args.i.op (op-below begun) begun.requires.low begun.requires.high begun.requires.row c.in_default.in_default-own.rest))
