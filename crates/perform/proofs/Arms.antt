@@ -1,5 +1,5 @@
 -- Columns 8 to F: a law for each sort of arm; and what `perform` hands on.
-use Rattle.std.proofs.Common.{◌≡◌, ℕ, ◌+◌, ◌*◌, ◌%◌, ◌<◌, ◌≤◌, Bool, true, false, not, eqb, List, get_or, refl, ap, ◌∙◌, arith}
+use Rattle.std.proofs.Common.{◌≡◌, ℕ, ◌+◌, ◌*◌, ◌%◌, ◌<◌, ◌≤◌, Bool, false, not, eqb, List, get_or, refl, ap, ◌∙◌, arith}
 use Rattle.word.specs.Fields.{upper, lower, word_of}
 use Rattle.word.specs.Words.{plus, disp_of, moved_by}
 use Rattle.word.proofs.Computed.{NoneOf, fails, else_passes}

@@ -1,4 +1,4 @@
-use Rattle.std.proofs.Common.{◌∙◌, rules}
+use Rattle.std.proofs.Common.{◌∙◌}
 use Rattle.perform.proofs.Theorems.{here_is}
 use Rattle.perform.proofs.execute_here.Goals as goal
 

@@ -7,16 +7,16 @@ use Rattle.step.proofs.Acts.{entered_left}
 use Rattle.step.proofs.act.Goals as goal
 
 pub enter-requires : goal.enter-requires
-enter-requires c = granted_low _ _ _ _ (search rules) (sym c.granted.ensures ∙ c.g.given.1)
+enter-requires c = granted_low _ _ _ _ (search rules) (sym c.granted-g.ensures ∙ c.in-Request.is)
 
 pub returns-in-Nothing : goal.returns-in-Nothing
 unfolding granted_or grant_of
 returns-in-Nothing c =
     let grant-is = rw (c.held-ipr.ensures, c.held-imr.ensures, c.held-irq.ensures) at c.granted-g.ensures in
-    rw (← grant-is, c.in-Nothing.is.1) c.execute_here.ensures
+    rw (← grant-is, c.in-Nothing.is) c.execute_here.ensures
 
 pub returns-in-Request : goal.returns-in-Request
 unfolding granted_or grant_of
 returns-in-Request c =
     let grant-is = rw (c.held-ipr.ensures, c.held-imr.ensures, c.held-irq.ensures) at c.granted-g.ensures in
-    rw (← grant-is, c.in-Request.n.1, c.cost-cost.ensures) (entered_left c.args.pins _ _ _ _ _ c.enter.ensures)
+    rw (← grant-is, c.in-Request.is, c.cost-cost.ensures) (entered_left c.args.pins _ _ _ _ _ c.enter.ensures)

@@ -1,4 +1,3 @@
-use borrow.Author.Rules.{rules}
 use mathlib.Core.Path.{sym, ◌∙◌, subst, ◌≡◌}
 use lib.Dec.{T}
 use borrow.Author.Tests.{not-true, not-false}
@@ -11,36 +10,31 @@ use Rattle.step.specs.ForCode.{is_refused_of}
 use Rattle.step.proofs.Acts.{granted_is}
 use Rattle.step.proofs.Theorems.{told_refused, told_taken, granted_taken}
 use Rattle.step.proofs.is_refused.Goals as goal
-use Rattle.step.proofs.is_refused.Goals.{After-highest-g, Start}
+use Rattle.step.proofs.is_refused.Goals.{After-highest-g}
 
 -- what is granted when the pins are compared
 module _ (s : After-highest-g) where
-  abbrev start : Start
-  start = s.before.before.before.before.before.before
-
   abbrev given : Machine
-  given = machine_in start.args.regs.now start.args.rest.now
+  given = machine_in s.args.regs.now s.args.rest.now
 
-  grant-is : grant_of (compared_of given start.args.pins.port3).machine ≡ s.highest-g.result
+  grant-is : grant_of (compared_of given s.args.pins.port3).machine ≡ s.highest-g.result
   grant-is =
       let standing = rw (s.held-ipr.ensures, s.standing-standing.ensures, s.held-imr.ensures, s.requests-irq.ensures) at s.highest-g.ensures in
-      sym (granted_is start.args.pins given start.requires) ∙ sym (rw granted_standing at standing)
+      sym (granted_is s.args.pins given s.requires) ∙ sym (rw granted_standing at standing)
 
 pub returns-in-Nothing : goal.returns-in-Nothing
 unfolding is_refused_of
 returns-in-Nothing c =
-    let st = start (goal.at.returns-in-Nothing c).After-highest-g in
-    let pins = st.args.pins in
-    let image = st.args.image.now in
+    let pins = c.args.pins in
+    let image = c.args.image.now in
     let m = given (goal.at.returns-in-Nothing c).After-highest-g in
-    let none = grant-is (goal.at.returns-in-Nothing c).After-highest-g ∙ c.in-Nothing.is.1 in
-    let known = rw (c.program-op.ensures, c.pc-pc.ensures) at c.is_defined.ensures in record { value = rw (none, known); refused = (λ t mem. told_refused pins image mem m st.pre none (sym known ∙ not-true _ t), λ t mem. told_taken pins image mem m st.pre none (sym known ∙ not-false _ t)); taken =  }
+    let none = grant-is (goal.at.returns-in-Nothing c).After-highest-g ∙ c.in-Nothing.is in
+    let known = rw (c.program-op.ensures, c.pc-pc.ensures) at c.is_defined.ensures in record { value = rw (none, known); refused = λ t mem. told_refused pins image mem m c.requires none (sym known ∙ not-true _ t); taken = λ t mem. told_taken pins image mem m c.requires none (sym known ∙ not-false _ t) }
 
 pub returns-in-Request : goal.returns-in-Request
 unfolding is_refused_of
 returns-in-Request c =
-    let st = start (goal.at.returns-in-Request c).After-highest-g in
-    let pins = st.args.pins in
-    let image = st.args.image.now in
+    let pins = c.args.pins in
+    let image = c.args.image.now in
     let m = given (goal.at.returns-in-Request c).After-highest-g in
-    let some = grant-is (goal.at.returns-in-Request c).After-highest-g ∙ c.in-Request.field-0.1 in record { value = rw (some); refused = (λ t mem. absurd (subst T (sym t) tt), λ t mem. granted_taken pins image mem m st.pre some); taken =  }
+    let some = grant-is (goal.at.returns-in-Request c).After-highest-g ∙ c.in-Request.is in record { value = rw (some); refused = λ t mem. absurd (subst T (sym t) tt); taken = λ t mem. granted_taken pins image mem m c.requires some }

@@ -1,4 +1,3 @@
-use borrow.Author.Rules.{rules}
 use Rattle.numbers.specs.Numbers.{budget_most}
 use Rattle.step.specs.Run.{run_of}
 use mathlib.Core.Path.{◌≡◌}

@@ -1,4 +1,3 @@
-use borrow.Author.Rules.{rules}
 use mathlib.Core.Path.{◌∙◌}
 use Rattle.step.proofs.Turns.{one_run}
 use Rattle.step.proofs.step.Goals as goal

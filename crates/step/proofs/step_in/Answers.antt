@@ -27,10 +27,10 @@ given s = machine_in s.args.regs.now s.args.rest.now
 pins-legal : (s : Start) → LegalPins s.args.pins
 pins-legal s = search rules
 
-image-read : (s : After-shared_slice_known-1) → AllRead (image s.before)
+image-read : (s : After-shared_slice_known-1) → AllRead s.args.image.now
 image-read s = read_any s.args.image.now (λ i. omega (arith, s.type_inv.image i))
 
-memory-read : (s : After-slice_known-1) → AllRead (memory s.before.before)
+memory-read : (s : After-slice_known-1) → AllRead s.args.mem.now
 memory-read s = read_any s.args.mem.now (λ i. omega (arith, s.type_inv.mem i))
 
 pub returns-then-cycles-eq0 : goal.returns-then-cycles-eq0

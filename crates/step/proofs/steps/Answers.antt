@@ -2,7 +2,7 @@ use borrow.Author.Rules.{rules}
 use mathlib.Core.Path.{◌≡◌, refl, ap, sym, ◌∙◌, subst}
 use mathlib.Core.List.{List}
 use native.Mathlib.Omega.{arith}
-use Prim.Native.Nat.{ℕ, ◌-◌, ◌≤◌, ◌<◌}
+use Prim.Native.Nat.{ℕ, ◌≤◌, ◌<◌}
 use lib.ListN.{length}
 use Rattle.word.proofs.Iterate.{iter_zero}
 use Rattle.machine.specs.Legal.{Legal}
@@ -17,11 +17,11 @@ use Rattle.step.specs.ForCode.{progress_in}
 use Rattle.numbers.specs.Numbers.{budget_most}
 use Rattle.step.specs.Run.{steps_of}
 use Rattle.step.proofs.Acts.{read_any}
-use Rattle.step.proofs.Turns.{SoFar, at_first, was_taken, one_on, was_refused, reached, refused_first, compared_before, all_turns}
+use Rattle.step.proofs.Turns.{at_first, was_taken, one_on, was_refused, reached, refused_first, compared_before, all_turns}
 use Rattle.step.specs.Step.{Progress}
 use Rattle.step.proofs.Good.{Taken}
 use Rattle.step.proofs.steps.Goals as goal
-use Rattle.step.proofs.steps.Goals.{After-compare-ends1, After-is_refused-refused, After-shared_slice_known-1, After-slice_known-1, After-step_in-s, In-loop-cycles, Start}
+use Rattle.step.proofs.steps.Goals.{After-compare-ends1, After-shared_slice_known-1, After-slice_known-1, After-step_in-s, Start}
 
 pins-legal : (s : Start) → LegalPins s.args.pins
 pins-legal s = search rules
@@ -34,59 +34,47 @@ memory-read s = read_any s.args.mem.now (λ i. omega (arith, s.type_inv.mem i))
 
 -- the pins compared, and where the first step is not refused the run is what it is from there
 module _ (s : After-compare-ends1) where
-  abbrev asked : After-is_refused-refused
-  asked = s.before.before.before.before
-
-  abbrev start : Start
-  start = asked.before.before.before.before.before.before
-
   abbrev image : List ℕ
-  image = start.args.image.now
+  image = s.args.image.now
 
   abbrev memory : List ℕ
-  memory = start.args.mem.now
+  memory = s.args.mem.now
 
   abbrev given : Machine
-  given = machine_in start.args.regs.now start.args.rest.now
+  given = machine_in s.args.regs.now s.args.rest.now
 
   abbrev compared : Machine
   compared = machine_in s.compare-ends1.new.regs s.compare-ends1.new.rest
 
-  same-run : all_turns start.args.pins image memory compared s.compare-ends1.result start.args.budget ≡ steps_of start.args.pins image memory given start.args.budget
-  same-run =
-      let some : 0 < start.args.budget = omega (arith, asked.if1.left) in
-      let first = asked.is_refused-refused.ensures.taken s.if-refused.false memory in
-      compared_before start.args.pins image memory given start.requires.legal (pins-legal start) start.args.budget _ s.compare-ends1.ensures some first
+  same-run : LegalPins s.args.pins → all_turns s.args.pins image memory compared s.compare-ends1.result s.args.budget ≡ steps_of s.args.pins image memory given s.args.budget
+  same-run lp =
+      let some : 0 < s.args.budget = omega (arith, s.if-budget-eq0.false) in
+      let first = s.is_refused-refused.ensures.taken s.if-refused.false memory in
+      compared_before s.args.pins image memory given s.requires.legal lp s.args.budget _ s.compare-ends1.ensures some first
 
 -- a turn of the loop
 module _ (s : After-step_in-s) where
-  abbrev turn : In-loop-cycles
-  turn = s.before.before.before.before
-
-  abbrev shared : After-shared_slice_known-1
-  shared = s.before.before.before.before.before.before.before.before.before.before.before.before.before.before.before
-
   abbrev came : Progress
   came = progress_in (machine_in s.step_in-s.new.regs s.step_in-s.new.rest) s.step_in-s.new.mem s.step_in-s.result
 
-  taken : s.step_in-s.result.refusal ≡ 0 → Taken came
-  taken = was_taken _ _ _ _ _ _ (pins-legal shared.before) (image-read shared) turn.loop-cycles.invariant.0 turn.loop-cycles-test.true s.step_in-s.ensures
+  taken : LegalPins s.args.pins → AllRead s.args.image.now → s.step_in-s.result.refusal ≡ 0 → Taken came
+  taken lp li = was_taken _ _ _ _ _ _ lp li s.loop-cycles.invariant.0 s.loop-cycles-test.true s.step_in-s.ensures
 
-  goes : turn.loop-cycles.cycles < shared.args.budget
-  goes = turn.loop-cycles-test.true
+  goes : s.loop-cycles.cycles < s.args.budget
+  goes = s.loop-cycles-test.true
 
-  limited : shared.args.budget ≤ budget_most
-  limited = shared.requires.budget_le_budget_most
+  limited : s.args.budget ≤ budget_most
+  limited = s.requires.budget_le_budget_most
 
-  as_long : length s.step_in-s.new.mem ≡ length shared.args.mem.now
-  as_long = s.step_in-s.auto.mem ∙ turn.loop-cycles.invariant.1
+  as_long : length s.step_in-s.new.mem ≡ length s.args.mem.now
+  as_long = s.step_in-s.auto.mem ∙ s.loop-cycles.invariant.1
 
 pub returns-then-budget-eq0 : goal.returns-then-budget-eq0
 unfolding steps_of
 returns-then-budget-eq0 c = rw c.if-budget-eq0.true (sym (iter_zero _ _))
 
 pub is_refused-refused-requires : goal.is_refused-refused-requires
-is_refused-refused-requires c = c.before.before.before.before.before.requires.0
+is_refused-refused-requires c = c.requires.legal
 
 pub returns-then-refused : goal.returns-then-refused
 returns-then-refused c =
@@ -97,7 +85,7 @@ returns-then-refused c =
     refused_first c.args.pins image mem m c.args.budget (omega (arith, c.if-budget-eq0.false)) first
 
 pub compare-ends1-requires : goal.compare-ends1-requires
-compare-ends1-requires c = c.before.before.before.before.before.before.before.before.before.requires.0
+compare-ends1-requires c = c.requires.legal
 
 pub loop-cycles-init : goal.loop-cycles-init
 loop-cycles-init c =
@@ -117,35 +105,35 @@ shape_of-mem-then-s-ne-DONE c =
 
 pub returns-then-s-ne-DONE : goal.returns-then-s-ne-DONE
 returns-then-s-ne-DONE c =
-    let lp = pins-legal (shared (goal.at.returns-then-s-ne-DONE c).After-step_in-s).before in
-    let li = image-read (shared (goal.at.returns-then-s-ne-DONE c).After-step_in-s) in
-    was_refused _ _ _ _ _ _ lp li c.loop-cycles.invariant.0 c.loop-cycles-test.true c.step_in-s.ensures c.if-s-ne-DONE.true ∙ same-run (goal.at.returns-then-s-ne-DONE c).After-compare-ends1
+    let lp = pins-legal (goal.at.returns-then-s-ne-DONE c).Start in
+    let li = image-read (goal.at.returns-then-s-ne-DONE c).After-shared_slice_known-1 in
+    was_refused _ _ _ _ _ _ lp li c.loop-cycles.invariant.0 c.loop-cycles-test.true c.step_in-s.ensures c.if-s-ne-DONE.true ∙ same-run (goal.at.returns-then-s-ne-DONE c).After-compare-ends1 (pins-legal (goal.at.returns-then-s-ne-DONE c).Start)
 
 pub overflow_add-cycles : goal.overflow_add-cycles
 overflow_add-cycles c =
-    let t = taken (goal.at.overflow_add-cycles c).After-step_in-s c.if-s-ne-DONE.false in
+    let t = taken (goal.at.overflow_add-cycles c).After-step_in-s (pins-legal (goal.at.overflow_add-cycles c).Start) (image-read (goal.at.overflow_add-cycles c).After-shared_slice_known-1) c.if-s-ne-DONE.false in
     omega (arith, t.costs_high, goes (goal.at.overflow_add-cycles c).After-step_in-s, limited (goal.at.overflow_add-cycles c).After-step_in-s)
 
 pub overflow_add-ends0 : goal.overflow_add-ends0
 overflow_add-ends0 c =
-    let t = taken (goal.at.overflow_add-ends0 c).After-step_in-s c.if-s-ne-DONE.false in
-    omega (arith, t.costs_high, t.ends0_few, (turn (goal.at.overflow_add-ends0 c).After-step_in-s).loop-cycles.invariant.0.ends0_few, goes (goal.at.overflow_add-ends0 c).After-step_in-s, limited (goal.at.overflow_add-ends0 c).After-step_in-s)
+    let t = taken (goal.at.overflow_add-ends0 c).After-step_in-s (pins-legal (goal.at.overflow_add-ends0 c).Start) (image-read (goal.at.overflow_add-ends0 c).After-shared_slice_known-1) c.if-s-ne-DONE.false in
+    omega (arith, t.costs_high, t.ends0_few, c.loop-cycles.invariant.0.ends0_few, goes (goal.at.overflow_add-ends0 c).After-step_in-s, limited (goal.at.overflow_add-ends0 c).After-step_in-s)
 
 pub overflow_add-ends1 : goal.overflow_add-ends1
 overflow_add-ends1 c =
-    let t = taken (goal.at.overflow_add-ends1 c).After-step_in-s c.if-s-ne-DONE.false in
-    omega (arith, t.costs_high, t.ends1_few, (turn (goal.at.overflow_add-ends1 c).After-step_in-s).loop-cycles.invariant.0.ends1_few, goes (goal.at.overflow_add-ends1 c).After-step_in-s, limited (goal.at.overflow_add-ends1 c).After-step_in-s)
+    let t = taken (goal.at.overflow_add-ends1 c).After-step_in-s (pins-legal (goal.at.overflow_add-ends1 c).Start) (image-read (goal.at.overflow_add-ends1 c).After-shared_slice_known-1) c.if-s-ne-DONE.false in
+    omega (arith, t.costs_high, t.ends1_few, c.loop-cycles.invariant.0.ends1_few, goes (goal.at.overflow_add-ends1 c).After-step_in-s, limited (goal.at.overflow_add-ends1 c).After-step_in-s)
 
 pub loop-cycles-smaller : goal.loop-cycles-smaller
 loop-cycles-smaller c =
-    let t = taken (goal.at.loop-cycles-smaller c).After-step_in-s c.if-s-ne-DONE.false in
+    let t = taken (goal.at.loop-cycles-smaller c).After-step_in-s (pins-legal (goal.at.loop-cycles-smaller c).Start) (image-read (goal.at.loop-cycles-smaller c).After-shared_slice_known-1) c.if-s-ne-DONE.false in
     omega (arith, t.costs_low, goes (goal.at.loop-cycles-smaller c).After-step_in-s)
 
 pub loop-cycles-preserved : goal.loop-cycles-preserved
 loop-cycles-preserved c =
-    let t = taken (goal.at.loop-cycles-preserved c).After-step_in-s c.if-s-ne-DONE.false in
-    let lp = pins-legal (shared (goal.at.loop-cycles-preserved c).After-step_in-s).before in
-    let li = image-read (shared (goal.at.loop-cycles-preserved c).After-step_in-s) in
+    let t = taken (goal.at.loop-cycles-preserved c).After-step_in-s (pins-legal (goal.at.loop-cycles-preserved c).Start) (image-read (goal.at.loop-cycles-preserved c).After-shared_slice_known-1) c.if-s-ne-DONE.false in
+    let lp = pins-legal (goal.at.loop-cycles-preserved c).Start in
+    let li = image-read (goal.at.loop-cycles-preserved c).After-shared_slice_known-1 in
     (one_on _ _ _ _ _ _ lp li c.loop-cycles.invariant.0 c.loop-cycles-test.true c.step_in-s.ensures t, as_long (goal.at.loop-cycles-preserved c).After-step_in-s)
 
 pub shape_of-mem : goal.shape_of-mem
@@ -153,4 +141,4 @@ shape_of-mem c = c.loop-cycles.invariant.1
 
 pub returns : goal.returns
 returns c =
-    reached _ _ _ _ _ _ c.loop-cycles.invariant.0 c.loop-cycles-test.false ∙ same-run (goal.at.returns c).After-compare-ends1
+    reached _ _ _ _ _ _ c.loop-cycles.invariant.0 c.loop-cycles-test.false ∙ same-run (goal.at.returns c).After-compare-ends1 (pins-legal (goal.at.returns c).Start)

@@ -20,11 +20,11 @@ row_below s = search rules
 
 pub returns-then-i-eq226 : goal.returns-then-i-eq226
 unfolding entry_of opcode_map
-returns-then-i-eq226 c = rw (c.refused.ensures.value, c.refused.ensures.back) (blank_is_refused _ _ _ _ _ _ (rw c.if1.true refl))
+returns-then-i-eq226 c = rw (c.refused.ensures.value, c.refused.ensures.back) (blank_is_refused _ _ _ _ _ _ (rw c.if-i-eq226.true refl))
 
 pub singles-requires : goal.singles-requires
 singles-requires c =
-    let row = else_passes single_row 16 (upper c.args.i.op) (row_below (goal.at.singles-requires c).Start) c.in_default.rest in
+    let row = else_passes single_row 16 (upper c.args.i.op) (row_below (goal.at.singles-requires c).Start) c.in_default.in_default-own.rest in
     record { low = c.requires.low; high = c.requires.high; next = c.requires.next; row = row }
 
 pub returns-in-0 : goal.returns-in-0
@@ -78,4 +78,4 @@ returns-in-11 c =
     rw (c.store-in-11.ensures, c.xor-r.ensures, c.read-was.ensures) (binary_arm _ _ c.requires binary.Xor 11 c.in-11.is refl)
 
 pub returns-else-i-eq226 : goal.returns-else-i-eq226
-returns-else-i-eq226 c = rw c.write.ensures (ld_arm _ _ c.before.before.before.before.before.before.before.before.before.before.before.before.requires c.in-14.is (omega arith))
+returns-else-i-eq226 c = rw c.write.ensures (ld_arm _ _ c.requires c.in-14.is (omega arith))

@@ -15,4 +15,4 @@ returns-then-taken c =
 
 pub returns : goal.returns
 unfolding jumped
-returns c = jp_arm _ _ (op-below c.before.before.before.before.before) c.before.before.before.before.before.requires false (sym c.condition-taken.ensures ∙ c.if-taken.false)
+returns c = jp_arm _ _ (op-below (goal.at.returns c).Start) c.requires false (sym c.condition-taken.ensures ∙ c.if-taken.false)

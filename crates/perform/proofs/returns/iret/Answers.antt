@@ -1,4 +1,3 @@
-use Rattle.std.proofs.Common.{rules}
 use Rattle.machine.proofs.Whole.{placed_is}
 use Rattle.deeds.specs.Pages.{iret_deed}
 use Rattle.execute.specs.Doing.{done_of, interrupt_returned}

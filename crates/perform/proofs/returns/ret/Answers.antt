@@ -1,4 +1,3 @@
-use Rattle.std.proofs.Common.{rules}
 use Rattle.deeds.specs.Pages.{ret_deed}
 use Rattle.execute.specs.Doing.{done_of, returned}
 use Rattle.perform.proofs.returns.ret.Goals as goal
