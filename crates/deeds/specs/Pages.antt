@@ -1,7 +1,7 @@
 -- What each page of chapter 5 has an instruction do, in the pages' order, with everything read that it needs: a deed. What is written
 -- then, and in which order, is the room `execute`'s. Throughout, m is the machine before the instruction, but with its program counter
 -- already at the next one; p are the pins, i the instruction's bytes.
-use Rattle.std.specs.Prelude.{Bool, true, false, not, List, ℕ, ◌+◌, ◌%◌, eqb}
+use Rattle.std.specs.Prelude.{Bool, true, not, List, ℕ, ◌+◌, ◌%◌, eqb}
 use Rattle.word.specs.Fields.{upper, word_of}
 use Rattle.word.specs.Words.{disp_of, moved_by}
 use Rattle.alu.specs.FlagByte.{rcf_of, scf_of, ccf_of}

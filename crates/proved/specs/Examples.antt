@@ -1,7 +1,7 @@
 -- 01's proved examples, as 02 corrects them, and two of 02, C-13, one list: each is a test on the definitions, from the bytes of an
 -- instruction, a step or a span of a machine to what is left.
-use Rattle.std.specs.Prelude.{ℕ, Bool, true, false, ◌&&◌, List, [], ◌∷◌, ◌++◌, eqb, replicate}
-use Rattle.machine.specs.Names.{TMR, T0, PRE0, IPR, IRQ, IMR, FLAGS}
+use Rattle.std.specs.Prelude.{ℕ, Bool, true, ◌&&◌, List, [], ◌∷◌, ◌++◌, eqb, replicate}
+use Rattle.machine.specs.Names.{T0, PRE0, IPR, IRQ, IMR, FLAGS}
 use Rattle.machine.specs.State.{whole, core_of, held, placed, with_pc}
 use Rattle.machine.specs.Clock.{counting_at, write_tmr, span_of}
 use Rattle.machine.specs.Start.{default_of, full_timer}

@@ -1,18 +1,14 @@
-use borrow.Author.Rules.{rules}
 use mathlib.Core.Path.{◌≡◌}
 use mathlib.Core.Bool.{true, false}
 use borrow.Author.Tests.{eq-eqb, ne_eqb}
 use lib.Dec.{eqb}
 use Rattle.z8.specs.Calls.{decode_call_of}
 use Rattle.z8.proofs.z8_decode.Goals as goal
-use Rattle.z8.proofs.z8_decode.Goals.{After-fetch-i, After-image_refusal-refusal}
+use Rattle.z8.proofs.z8_decode.Goals.{After-fetch-i}
 
 -- the image is taken, and three of its bytes are read
 module _ (read : After-fetch-i) where
-  abbrev of_image : After-image_refusal-refusal
-  of_image = read.before.before
-
-  taken : eqb of_image.image_refusal-refusal.result 0 ≡ true
+  taken : eqb read.image_refusal-refusal.result 0 ≡ true
   taken = eq-eqb _ _ read.if-refusal-ne-DONE.false
 
 pub returns-then-refusal-ne-DONE : goal.returns-then-refusal-ne-DONE
@@ -25,10 +21,10 @@ pub returns-in-Refused : goal.returns-in-Refused
 unfolding decode_call_of
 returns-in-Refused c =
     let decoded = c.decode-d.ensures in
-    rw (← (of_image (goal.at.returns-in-Refused c).After-fetch-i).image_refusal-refusal.ensures, taken (goal.at.returns-in-Refused c).After-fetch-i, ← c.fetch-i.ensures, ← decoded, c.in-Refused.n.1)
+    rw (← c.image_refusal-refusal.ensures, taken (goal.at.returns-in-Refused c).After-fetch-i, ← c.fetch-i.ensures, ← decoded, c.in-Refused.is)
 
 pub returns-in-Instruction : goal.returns-in-Instruction
 unfolding decode_call_of
 returns-in-Instruction c =
     let decoded = c.decode-d.ensures in
-    rw (← (of_image (goal.at.returns-in-Instruction c).After-fetch-i).image_refusal-refusal.ensures, taken (goal.at.returns-in-Instruction c).After-fetch-i, ← c.fetch-i.ensures, ← decoded, c.in-Instruction.op.1)
+    rw (← c.image_refusal-refusal.ensures, taken (goal.at.returns-in-Instruction c).After-fetch-i, ← c.fetch-i.ensures, ← decoded, c.in-Instruction.is)

@@ -1,4 +1,3 @@
-use borrow.Author.Rules.{rules}
 use mathlib.Core.Path.{◌∙◌, sym, ap}
 use Rattle.z8.proofs.Refusals.{is_refused, is_done, load_refuses, load_long, load_machine}
 use Rattle.z8.proofs.Ways.{span_left}

@@ -10,7 +10,7 @@ use Rattle.z8.specs.Calls.{answer, Lent, step_call_of, pins_given}
 use Rattle.step.specs.Step.{step_of}
 use Rattle.step.proofs.Acts.{read_any}
 use Rattle.z8.proofs.z8_step.Goals as goal
-use Rattle.z8.proofs.z8_step.Goals.{Else-refusal-ne-DONE, Start}
+use Rattle.z8.proofs.z8_step.Goals.{After-slice_known-2-1, Else-refusal-ne-DONE, Start}
 
 abbrev pins : Start → Pins
 pins s = pins_given s.args.pins0 s.args.pins1 s.args.pins2 s.args.pins3
@@ -18,15 +18,12 @@ pins s = pins_given s.args.pins0 s.args.pins1 s.args.pins2 s.args.pins3
 pins-legal : (s : Start) → LegalPins (pins s)
 pins-legal s = search rules
 
-abbrev start : Else-refusal-ne-DONE → Start
-start s = s.before.before.before.before.before.before.before.before
-
 -- past the first refusals
-known : (s : Else-refusal-ne-DONE) → Admitted (start s).args.saved.now (start s).args.image.now (start s).args.memory.now s.load.result.machine
-known s = admitted_is _ _ _ _ s.load.ensures _ s.admitted-refusal.ensures s.if-refusal-ne-DONE.false
+known : (s : Else-refusal-ne-DONE) → Admitted s.args.saved.now s.args.image.now s.args.memory.now s.load-loaded.result.machine
+known s = admitted_is _ _ _ _ (s.load-loaded.ensures.value, s.load-loaded.ensures.legal) _ s.admitted-refusal.ensures s.if-refusal-ne-DONE.false
 
 pub returns-then-refusal-ne-DONE : goal.returns-then-refusal-ne-DONE
-returns-then-refusal-ne-DONE c = no_step _ _ _ _ c.load.ensures.0 _ c.admitted-refusal.ensures c.if-refusal-ne-DONE.true
+returns-then-refusal-ne-DONE c = no_step _ _ _ _ c.load-loaded.ensures.value _ c.admitted-refusal.ensures c.if-refusal-ne-DONE.true
 
 pub step-s-requires : goal.step-s-requires
 step-s-requires c =
@@ -35,10 +32,10 @@ step-s-requires c =
 pub returns-then-s-ne-DONE : goal.returns-then-s-ne-DONE
 unfolding step_call_of
 returns-then-s-ne-DONE c =
-    let st = start (goal.at.returns-then-s-ne-DONE c).Else-refusal-ne-DONE in
-    let went = c.step-s.ensures ∙ ap (λ (m : Machine). step_of (pins st) st.args.image.now st.args.memory.now m) (known (goal.at.returns-then-s-ne-DONE c).Else-refusal-ne-DONE).is in
-    let image-read = read_any st.args.image.now (λ i. omega (arith, c.type_inv.image i)) in
-    let memory-read = read_any st.args.memory.now (λ i. omega (arith, c.type_inv.memory i)) in
+    let st = (goal.at.returns-then-s-ne-DONE c).Start in
+    let went = c.step-s.ensures ∙ ap (λ (m : Machine). step_of (pins st) c.args.image.now c.args.memory.now m) (known (goal.at.returns-then-s-ne-DONE c).Else-refusal-ne-DONE).is in
+    let image-read = read_any c.args.image.now (λ i. omega (arith, c.type_inv.image i)) in
+    let memory-read = read_any c.args.memory.now (λ i. omega (arith, (goal.at.returns-then-s-ne-DONE c).After-slice_known-2-1.type_inv.memory i)) in
     let stays = memory_stays (pins st) _ _ _ _ _ (known (goal.at.returns-then-s-ne-DONE c).Else-refusal-ne-DONE).legal (pins-legal st) image-read memory-read c.step-s.ensures c.if-s-ne-DONE.true in
     rw stays (is_refused _ _ _ _ ((known (goal.at.returns-then-s-ne-DONE c).Else-refusal-ne-DONE).next _ ∙ sym (number_is _ _ _ went)) c.if-s-ne-DONE.true)
 
@@ -49,6 +46,6 @@ save-requires c =
 pub returns : goal.returns
 unfolding step_call_of
 returns c =
-    let st = start (goal.at.returns c).Else-refusal-ne-DONE in
+    let st = (goal.at.returns c).Start in
     let went = c.step-s.ensures ∙ ap (λ (m : Machine). step_of (pins st) st.args.image.now st.args.memory.now m) (known (goal.at.returns c).Else-refusal-ne-DONE).is in
     ap (λ (x : Lent). answer 0 x) (left_is _ _ _ _ went c.save.ensures) ∙ is_done _ _ _ ((known (goal.at.returns c).Else-refusal-ne-DONE).next _ ∙ sym (number_is _ _ _ went) ∙ c.if-s-ne-DONE.false)
