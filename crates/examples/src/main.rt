@@ -2,8 +2,8 @@
 // the independent program tests/reference/edges.c writes. (Image lengths are looked at by what C calls.)
 #![tactic(auto)]
 
-use libc::STDOUT_FILENO;
 use machine::{Machine, Pins, names};
+use std::io;
 use step::Ran;
 
 // The places of control registers in a saved machine.
@@ -45,30 +45,27 @@ fn high() -> Pins {
     }
 }
 
-fn byte(name: &[u8], v: u8) {
-    io::write_all(STDOUT_FILENO, name);
-    io::print_hex(STDOUT_FILENO, v as u64, 2);
+fn byte(rt: &impl Print, name: &str, v: u8) -> io::Result<()> {
+    print!(rt; "{name}{v:02x}")
 }
 
-fn word(name: &[u8], v: u16) {
-    io::write_all(STDOUT_FILENO, name);
-    io::print_hex(STDOUT_FILENO, v as u64, 4);
+fn word(rt: &impl Print, name: &str, v: u16) -> io::Result<()> {
+    print!(rt; "{name}{v:04x}")
 }
 
-fn count(name: &[u8], v: u32) {
-    io::write_all(STDOUT_FILENO, name);
-    io::print_decimal(STDOUT_FILENO, v as u64);
+fn count(rt: &impl Print, name: &str, v: u32) -> io::Result<()> {
+    print!(rt; "{name}{v}")
 }
 
-fn end() {
-    io::write_all(STDOUT_FILENO, b"\n");
+fn end(rt: &impl Print) -> io::Result<()> {
+    println!(rt; "")
 }
 
 // A step of the machine in these bytes, told by R4, R5, FLAGS, the program counter and its cycles.
-fn step_of(name: &[u8], s: &[u8], image: &[u8]) {
+fn step_of(rt: &impl Print, name: &str, s: &[u8], image: &[u8]) -> io::Result<()> {
     let l = saved::load(s);
     if l.refusal != numbers::DONE {
-        return;
+        return Ok(());
     }
     let m = l.machine;
     let mut mem = [0u8; 1];
@@ -77,45 +74,52 @@ fn step_of(name: &[u8], s: &[u8], image: &[u8]) {
     let n = r.machine;
     let pc = n.pc;
     saved::save(&mut after, n);
-    io::write_all(STDOUT_FILENO, name);
-    byte(b": R4 ", after[4]);
-    byte(b" R5 ", after[5]);
-    byte(b" FLAGS ", after[FLAGS]);
-    word(b" PC ", pc);
-    count(b" cycles ", r.cycles);
-    count(b" refusal ", r.refusal as u32);
-    end();
+    print!(rt; "{name}")?;
+    byte(rt, ": R4 ", after[4])?;
+    byte(rt, " R5 ", after[5])?;
+    byte(rt, " FLAGS ", after[FLAGS])?;
+    word(rt, " PC ", pc)?;
+    count(rt, " cycles ", r.cycles)?;
+    count(rt, " refusal ", r.refusal as u32)?;
+    end(rt)
 }
 
 // An instruction on R5, from a FLAGS byte.
-fn instruction(name: &[u8], r5: u8, flags: u8, image: &[u8], pc: u8) {
+fn instruction(
+    rt: &impl Print,
+    name: &str,
+    r5: u8,
+    flags: u8,
+    image: &[u8],
+    pc: u8,
+) -> io::Result<()> {
     let s = fresh(r5, flags, pc);
-    step_of(name, &s, image);
+    step_of(rt, name, &s, image)
 }
 
-fn instructions() {
-    instruction(b"44 + 11", 0x44, 0xFC, &[0x06u8, 0x05, 0x11], 0);
-    instruction(b"7B AND C3", 0x7B, 0x70, &[0x56u8, 0x05, 0xC3], 0);
-    instruction(b"00 - 01", 0x00, 0x50, &[0x26u8, 0x05, 0x01], 0);
-    instruction(b"INC 7F", 0x7F, 0x40, &[0x20u8, 0x05], 0);
-    instruction(b"SRA 81", 0x81, 0x50, &[0xD0u8, 0x05], 0);
-    instruction(b"RL 40", 0x40, 0xC0, &[0x90u8, 0x05], 0);
-    instruction(b"DA 3C", 0x3C, 0x60, &[0x40u8, 0x05], 0);
-    instruction(b"DECW 0000", 0x00, 0x00, &[0x80u8, 0x04], 0);
-    instruction(b"DJNZ on 1", 0x01, 0x00, &[0x5Au8, 0x10], 0);
-    instruction(b"DJNZ on 0", 0x00, 0x00, &[0x5Au8, 0x10], 0);
+fn instructions(rt: &impl Print) -> io::Result<()> {
+    instruction(rt, "44 + 11", 0x44, 0xFC, &[0x06u8, 0x05, 0x11], 0)?;
+    instruction(rt, "7B AND C3", 0x7B, 0x70, &[0x56u8, 0x05, 0xC3], 0)?;
+    instruction(rt, "00 - 01", 0x00, 0x50, &[0x26u8, 0x05, 0x01], 0)?;
+    instruction(rt, "INC 7F", 0x7F, 0x40, &[0x20u8, 0x05], 0)?;
+    instruction(rt, "SRA 81", 0x81, 0x50, &[0xD0u8, 0x05], 0)?;
+    instruction(rt, "RL 40", 0x40, 0xC0, &[0x90u8, 0x05], 0)?;
+    instruction(rt, "DA 3C", 0x3C, 0x60, &[0x40u8, 0x05], 0)?;
+    instruction(rt, "DECW 0000", 0x00, 0x00, &[0x80u8, 0x04], 0)?;
+    instruction(rt, "DJNZ on 1", 0x01, 0x00, &[0x5Au8, 0x10], 0)?;
+    instruction(rt, "DJNZ on 0", 0x00, 0x00, &[0x5Au8, 0x10], 0)
 }
 
 // 8B FE at 0010.
-fn jump() {
+fn jump(rt: &impl Print) -> io::Result<()> {
     let mut image = [0xFFu8; 18];
     image[16] = 0x8B;
     image[17] = 0xFE;
-    instruction(b"8B FE at 0010", 0, 0, &image, 0x10);
+    instruction(rt, "8B FE at 0010", 0, 0, &image, 0x10)
 }
 
 // IPR 08, IMR BF, IRQ 3F, with 1234 at 000A, on a machine that has executed EI: bit 0 of byte 267 (02, C-13).
-fn grant() {
+fn grant(rt: &impl Print) -> io::Result<()> {
     let mut s = fresh(0, 0, 0);
     s[267] = 1;
     s[IPR] = 0x08;
@@ -124,7 +128,7 @@ fn grant() {
     let mut image = [0xFFu8; 16];
     image[10] = 0x12;
     image[11] = 0x34;
-    step_of(b"IPR 08, IMR BF, IRQ 3F", &s, &image);
+    step_of(rt, "IPR 08, IMR BF, IRQ 3F", &s, &image)
 }
 
 // n cycles of the machine in these bytes.
@@ -142,7 +146,7 @@ fn span_of(s: &[u8], n: u32) -> Ran {
 }
 
 // T0's ends in n cycles, freshly loaded by PRE0 and its start byte.
-fn span(name: &[u8], pre0: u8, prescaler: u8, start: u8, n: u32) {
+fn span(rt: &impl Print, name: &str, pre0: u8, prescaler: u8, start: u8, n: u32) -> io::Result<()> {
     let mut s = fresh(0, 0, 0);
     s[TMR] = 0x02;
     s[T0] = start;
@@ -150,58 +154,53 @@ fn span(name: &[u8], pre0: u8, prescaler: u8, start: u8, n: u32) {
     s[259] = prescaler;
     s[260] = start;
     let x = span_of(&s, n);
-    io::write_all(STDOUT_FILENO, name);
-    count(b": ", n);
-    count(b" cycles, ends ", x.ends0);
-    end();
+    print!(rt; "{name}")?;
+    count(rt, ": ", n)?;
+    count(rt, " cycles, ends ", x.ends0)?;
+    end(rt)
 }
 
-fn spans() {
-    span(b"P 3, N 2", 0x0D, 3, 2, 23);
-    span(b"P 3, N 2", 0x0D, 3, 2, 24);
-    span(b"P 3, N 2", 0x0D, 3, 2, 48);
-    span(b"P 64, N 256", 0x01, 64, 0, 65535);
-    span(b"P 64, N 256", 0x01, 64, 0, 65536);
+fn spans(rt: &impl Print) -> io::Result<()> {
+    span(rt, "P 3, N 2", 0x0D, 3, 2, 23)?;
+    span(rt, "P 3, N 2", 0x0D, 3, 2, 24)?;
+    span(rt, "P 3, N 2", 0x0D, 3, 2, 48)?;
+    span(rt, "P 64, N 256", 0x01, 64, 0, 65535)?;
+    span(rt, "P 64, N 256", 0x01, 64, 0, 65536)
 }
 
 // A machine made, or refusal 3.
-fn make(cost: u32) {
+fn make(rt: &impl Print, cost: u32) -> io::Result<()> {
     let made = Machine::make(11, cost);
-    count(b"entry cost ", cost);
-    count(b": refusal ", made.refusal as u32);
-    end();
+    count(rt, "entry cost ", cost)?;
+    count(rt, ": refusal ", made.refusal as u32)?;
+    end(rt)
 }
 
 // A run of a program with no bytes, which is all NOPs.
-fn run(budget: u32) {
+fn run(rt: &impl Print, budget: u32) -> io::Result<()> {
     let s = fresh(0, 0, 0);
     let l = saved::load(&s);
     if l.refusal != numbers::DONE {
-        return;
+        return Ok(());
     }
     let m = l.machine;
     let mut mem = [0u8; 1];
     let image = [0xFFu8; 1];
     let r = step::run(m, high(), &image, &mut mem, budget);
-    count(b"budget ", budget);
-    count(b": refusal ", r.refusal as u32);
-    count(b", cycles ", r.cycles);
-    end();
+    count(rt, "budget ", budget)?;
+    count(rt, ": refusal ", r.refusal as u32)?;
+    count(rt, ", cycles ", r.cycles)?;
+    end(rt)
 }
 
-fn line(divider: u32, ends0: u32, ends1: u32) {
-    io::write_all(STDOUT_FILENO, b"P 1, N 1, fresh load, ");
-    io::write_all(STDOUT_FILENO, b"4294967295 cycles from divider ");
-    io::print_decimal(STDOUT_FILENO, divider as u64);
-    io::write_all(STDOUT_FILENO, b": ends of T0 ");
-    io::print_decimal(STDOUT_FILENO, ends0 as u64);
-    io::write_all(STDOUT_FILENO, b", of T1 ");
-    io::print_decimal(STDOUT_FILENO, ends1 as u64);
-    io::write_all(STDOUT_FILENO, b"\n");
+fn line(rt: &impl Print, divider: u32, ends0: u32, ends1: u32) -> io::Result<()> {
+    print!(rt; "P 1, N 1, fresh load, ")?;
+    print!(rt; "4294967295 cycles from divider {divider}")?;
+    println!(rt; ": ends of T0 {ends0}, of T1 {ends1}")
 }
 
 // Both timers repeating and clocked internally, with P 1 and N 1, freshly loaded and enabled.
-fn longest_span(divider: u8) {
+fn longest_span(rt: &impl Print, divider: u8) -> io::Result<()> {
     let mut s = fresh(0, 0, 0);
     s[TMR] = 0x0A;
     s[T1] = 1;
@@ -214,21 +213,21 @@ fn longest_span(divider: u8) {
     s[261] = 1;
     s[262] = 1;
     let x = span_of(&s, 4294967295);
-    line(divider as u32, x.ends0, x.ends1);
+    line(rt, divider as u32, x.ends0, x.ends1)
 }
 
-fn main() {
-    instructions();
-    jump();
-    grant();
-    spans();
-    make(5);
-    make(6);
-    make(63);
-    make(64);
-    run(0);
-    run(1000000);
-    run(1000001);
-    longest_span(0);
-    longest_span(1);
+fn main(rt: HostRuntime) -> io::Result<()> {
+    instructions(&rt)?;
+    jump(&rt)?;
+    grant(&rt)?;
+    spans(&rt)?;
+    make(&rt, 5)?;
+    make(&rt, 6)?;
+    make(&rt, 63)?;
+    make(&rt, 64)?;
+    run(&rt, 0)?;
+    run(&rt, 1000000)?;
+    run(&rt, 1000001)?;
+    longest_span(&rt, 0)?;
+    longest_span(&rt, 1)
 }

@@ -4,8 +4,8 @@
 #![tactic(auto)]
 
 use alu::{Flags, Outcome};
-use libc::STDOUT_FILENO;
 use opcodes::{Decoded, Encoded};
+use std::io;
 
 fn mixed(h: u32, x: u32) -> u32 {
     ((h as u64 * 31 + x as u64) % 4294967291) as u32
@@ -99,11 +99,9 @@ fn checksum(question: u8, n: u32) -> u32 {
 }
 
 // A line: the name and the checksum of a question.
-fn line(name: &[u8], question: u8, n: u32) {
-    io::write_all(STDOUT_FILENO, name);
-    io::write_all(STDOUT_FILENO, b" ");
-    io::print_hex(STDOUT_FILENO, checksum(question, n) as u64, 8);
-    io::write_all(STDOUT_FILENO, b"\n");
+fn line(rt: &impl Print, name: &str, question: u8, n: u32) -> io::Result<()> {
+    let sum = checksum(question, n);
+    println!(rt; "{name} {sum:08x}")
 }
 
 // All pairs of bytes with sixteen pairs of flags.
@@ -112,19 +110,19 @@ const BYTES: u32 = 1048576;
 // All triples of bytes.
 const TRIPLES: u32 = 16777216;
 
-fn main() {
-    line(b"ADD", 0, BYTES);
-    line(b"ADC", 1, BYTES);
-    line(b"SUB", 2, BYTES);
-    line(b"SBC", 3, BYTES);
-    line(b"CP", 4, BYTES);
-    line(b"AND", 5, BYTES);
-    line(b"OR", 6, BYTES);
-    line(b"XOR", 7, BYTES);
-    line(b"TM", 9, BYTES);
-    line(b"TCM", 10, BYTES);
-    line(b"displacements", 11, TRIPLES);
-    line(b"decoding", 12, TRIPLES);
-    line(b"encoding", 13, TRIPLES);
-    line(b"lengths", 14, 256);
+fn main(rt: HostRuntime) -> io::Result<()> {
+    line(&rt, "ADD", 0, BYTES)?;
+    line(&rt, "ADC", 1, BYTES)?;
+    line(&rt, "SUB", 2, BYTES)?;
+    line(&rt, "SBC", 3, BYTES)?;
+    line(&rt, "CP", 4, BYTES)?;
+    line(&rt, "AND", 5, BYTES)?;
+    line(&rt, "OR", 6, BYTES)?;
+    line(&rt, "XOR", 7, BYTES)?;
+    line(&rt, "TM", 9, BYTES)?;
+    line(&rt, "TCM", 10, BYTES)?;
+    line(&rt, "displacements", 11, TRIPLES)?;
+    line(&rt, "decoding", 12, TRIPLES)?;
+    line(&rt, "encoding", 13, TRIPLES)?;
+    line(&rt, "lengths", 14, 256)
 }
