@@ -63,8 +63,8 @@ unfolding block_moved counted_up pair_counted_up
 block_leaves p m t r rr =
     let n = (transferred m t).machine in
     let o = write_reg n r ((read_reg p n r + 1) % 256) in
-    let registers-count = leaves_on (stores_leave (write_keeps n r ((read_reg p n r + 1) % 256))) (stores_leave (pair_keeps o rr (plus (read_pair p o rr) 1))) in
-    leaves_on (transfer_leaves m t) registers-count
+    let registers_count = leaves_on (stores_leave (write_keeps n r ((read_reg p n r + 1) % 256))) (stores_leave (pair_keeps o rr (plus (read_pair p o rr) 1))) in
+    leaves_on (transfer_leaves m t) registers_count
 
 -- whether a deed is EI's
 abbrev enables : Deed → Bool

@@ -40,12 +40,12 @@ count f zero = 0
 count f (suc n) = one_if (f n) + count f n
 
 -- they are exactly the 25 of 01, in its order
-pub undefined-are :
+pub undefined_are :
     undefined_ones
     ≡ 0xE2 ∷ 0xF2 ∷ 0x84 ∷ 0x94 ∷ 0xC4 ∷ 0xF4 ∷ 0x85 ∷ 0x95 ∷ 0xC5 ∷ 0xD5 ∷ 0x86 ∷ 0x96 ∷ 0xC6 ∷ 0xF6 ∷ 0x87 ∷ 0x97 ∷ 0xF7
     ∷ 0x0F ∷ 0x1F ∷ 0x2F ∷ 0x3F ∷ 0x4F ∷ 0x5F ∷ 0x6F ∷ 0x7F ∷ []
 unfolding entry_of opcode_map
-undefined-are = refl
+undefined_are = refl
 
 pub defined_are_231 : count is_defined 256 ≡ 231
 unfolding entry_of opcode_map

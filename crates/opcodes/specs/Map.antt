@@ -1,7 +1,7 @@
 -- The opcode map: a row for each upper nibble of the opcode, a column for each lower one, as 004's Appendix C, 000 and 003 print it; 5.5 and
 -- 5.6 give the same opcodes. (Column F is whole in 003 alone, which for its part has Ir where the others have Irr.) Each entry is a mnemonic with its
 -- address modes (5.4), destination first as in 5.5, where the maps print the order of the bytes (1 is the destination, 2 the source).
--- "The blank areas are not defined": "231 opcodes are defined. The 25 undefined" (01) are exactly these (proved: `undefined-are`).
+-- "The blank areas are not defined": "231 opcodes are defined. The 25 undefined" (01) are exactly these (proved: `undefined_are`).
 use Rattle.std.specs.Prelude.{ℕ, List, [], ◌∷◌, get_or}
 use Rattle.word.specs.Fields.{upper, lower}
 use Rattle.opcodes.specs.declared.Entry.{Entry}

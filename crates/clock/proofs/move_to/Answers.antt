@@ -9,9 +9,9 @@ pub returns : goal.returns
 unfolding moved_to
 returns c =
     let r = c.args.x.lines.requests in
-    let port-put = rw c.put.ensures at c.set_port.ensures in
-    let mark-put = rw port-put at c.set_released.ensures in
-    let enable-put = placed_is TMR c.enabling-enabled.result mark-put in
-    let requests-put = placed_is IRQ r.irq enable-put in
-    let requests-stored : c.place-2.new.regs ≡ placed_in _ IRQ r.irq = c.place-2.ensures in
-    rw (requests-stored, c.place.ensures, requests-put, c.enabling-enabled.ensures, c.held-tmr.ensures)
+    let port_put = rw c.put.ensures at c.set_port.ensures in
+    let mark_put = rw port_put at c.set_released.ensures in
+    let enable_put = placed_is TMR c.enabling-enabled.result mark_put in
+    let requests_put = placed_is IRQ r.irq enable_put in
+    let requests_stored : c.place-2.new.regs ≡ placed_in _ IRQ r.irq = c.place-2.ensures in
+    rw (requests_stored, c.place.ensures, requests_put, c.enabling-enabled.ensures, c.held-tmr.ensures)

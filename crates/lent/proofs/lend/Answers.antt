@@ -8,8 +8,8 @@ use Rattle.lent.proofs.lend.Goals.{Start}
 fits : (s : Start) → (s.args.m.pc < 65536) × (s.args.m.last3 < 256) × (s.args.m.kind < 256) × (s.args.m.cost < 256)
 fits s = (omega arith, omega arith, omega arith, omega arith)
 
-port-fits : (s : Start) → PortBytes s.args.m.port
-port-fits s = search rules
+port_fits : (s : Start) → PortBytes s.args.m.port
+port_fits s = search rules
 
 -- LEFT cast-t9 : tie.Need-overflow-cast-t9
 -- cast-t9 c = search rules
@@ -21,4 +21,4 @@ pub returns : goal.returns
 returns c =
     let typed = fits (goal.at.returns c).Start in
     rw (c.bits_if-released.ensures.is, c.bits_if-tout.ensures.is, c.transmitter_number-transmitter.ensures, c.receiver_number-receiver.ensures)
-    (lent_seen c.args.m typed.0 typed.1 typed.2 typed.3 (port-fits (goal.at.returns c).Start))
+    (lent_seen c.args.m typed.0 typed.1 typed.2 typed.3 (port_fits (goal.at.returns c).Start))

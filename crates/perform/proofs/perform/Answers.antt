@@ -8,8 +8,8 @@ use Rattle.word.specs.Fields.{lower}
 use Rattle.perform.proofs.perform.Goals as goal
 use Rattle.perform.proofs.perform.Goals.{Start}
 
-op-below : (s : Start) → s.args.i.op < 256
-op-below s = search rules
+op_below : (s : Start) → s.args.i.op < 256
+op_below s = search rules
 
 low_below : (s : Start) → lower s.args.i.op < 16
 low_below s = search rules
@@ -44,13 +44,13 @@ pub returns-in-8 : goal.returns-in-8
 unfolding entry_of opcode_map length_of
 returns-in-8 c =
     let asked = in_column 8 _ c.in-8.is (c.operands-o.ensures.value, c.operands-o.ensures.next) in
-    elsewhere _ _ _ _ _ _ _ _ _ c.operands-o.ensures.next (rw c.write.ensures (ld_column _ _ (op-below (goal.at.returns-in-8 c).Start) WorkReg 8 asked refl refl))
+    elsewhere _ _ _ _ _ _ _ _ _ c.operands-o.ensures.next (rw c.write.ensures (ld_column _ _ (op_below (goal.at.returns-in-8 c).Start) WorkReg 8 asked refl refl))
 
 pub returns-in-9 : goal.returns-in-9
 unfolding entry_of opcode_map length_of
 returns-in-9 c =
     let asked = in_column 9 _ c.in-9.is (c.operands-o.ensures.value, c.operands-o.ensures.next) in
-    elsewhere _ _ _ _ _ _ _ _ _ c.operands-o.ensures.next (rw c.write-in-9.ensures (ld_column _ _ (op-below (goal.at.returns-in-9 c).Start) RegWork 9 asked refl refl))
+    elsewhere _ _ _ _ _ _ _ _ _ c.operands-o.ensures.next (rw c.write-in-9.ensures (ld_column _ _ (op_below (goal.at.returns-in-9 c).Start) RegWork 9 asked refl refl))
 
 pub returns-in-10 : goal.returns-in-10
 returns-in-10 c = elsewhere _ _ _ _ _ _ _ _ _ c.operands-o.ensures.next c.djnz.ensures
@@ -62,7 +62,7 @@ pub returns-in-12 : goal.returns-in-12
 unfolding entry_of opcode_map length_of
 returns-in-12 c =
     let asked = in_column 12 _ c.in-12.is (c.operands-o.ensures.value, c.operands-o.ensures.next) in
-    elsewhere _ _ _ _ _ _ _ _ _ c.operands-o.ensures.next (rw c.write-in-12.ensures (ld_column _ _ (op-below (goal.at.returns-in-12 c).Start) WorkImm 12 asked refl refl))
+    elsewhere _ _ _ _ _ _ _ _ _ c.operands-o.ensures.next (rw c.write-in-12.ensures (ld_column _ _ (op_below (goal.at.returns-in-12 c).Start) WorkImm 12 asked refl refl))
 
 pub returns-in-13 : goal.returns-in-13
 returns-in-13 c = elsewhere _ _ _ _ _ _ _ _ _ c.operands-o.ensures.next c.jp.ensures
@@ -71,7 +71,7 @@ pub returns-in-14 : goal.returns-in-14
 unfolding unary_of
 returns-in-14 c =
     let asked = in_column 14 _ c.in-14.is (c.operands-o.ensures.value, c.operands-o.ensures.next) in
-    elsewhere _ _ _ _ _ _ _ _ _ c.operands-o.ensures.next (rw (c.store.ensures, c.inc-r.ensures, c.read-was.ensures) (inc_column _ _ (op-below (goal.at.returns-in-14 c).Start) asked))
+    elsewhere _ _ _ _ _ _ _ _ _ c.operands-o.ensures.next (rw (c.store.ensures, c.inc-r.ensures, c.read-was.ensures) (inc_column _ _ (op_below (goal.at.returns-in-14 c).Start) asked))
 
 pub returns-in-0 : goal.returns-in-0
 returns-in-0 c = elsewhere _ _ _ _ _ _ _ _ _ c.operands-o.ensures.next c.one.ensures

@@ -16,8 +16,8 @@ module _ (s : After-read_pair-pointed) where
   ready : Ready s.args.pins given s.args.pc s.args.i s.working-r.result s.working-x.result s.read_pair-pointed.result
   ready = record { asked = s.requires; register = s.working-r.ensures; pair = s.working-x.ensures; pointed = s.read_pair-pointed.ensures }
 
-op-below : (s : Start) → s.args.i.op < 256
-op-below s = search rules
+op_below : (s : Start) → s.args.i.op < 256
+op_below s = search rules
 
 pub returns-in-130 : goal.returns-in-130
 returns-in-130 c =
@@ -82,4 +82,4 @@ unfolding entry_of opcode_map
 returns-in_default c =
     let begun = (goal.at.returns-in_default c).Start in
     rw (c.refused.ensures.value, c.refused.ensures.back)
-    (blank_is_refused _ _ _ _ _ _ (single_blank begun.args.i.op (op-below begun) begun.requires.low begun.requires.high begun.requires.row c.in_default.in_default-own.rest))
+    (blank_is_refused _ _ _ _ _ _ (single_blank begun.args.i.op (op_below begun) begun.requires.low begun.requires.high begun.requires.row c.in_default.in_default-own.rest))

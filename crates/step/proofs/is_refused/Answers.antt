@@ -17,8 +17,8 @@ module _ (s : After-highest-g) where
   abbrev given : Machine
   given = machine_in s.args.regs.now s.args.rest.now
 
-  grant-is : grant_of (compared_of given s.args.pins.port3).machine ≡ s.highest-g.result
-  grant-is =
+  grant_is : grant_of (compared_of given s.args.pins.port3).machine ≡ s.highest-g.result
+  grant_is =
       let standing = rw (s.held-ipr.ensures, s.standing-standing.ensures, s.held-imr.ensures, s.requests-irq.ensures) at s.highest-g.ensures in
       sym (granted_is s.args.pins given s.requires) ∙ sym (rw granted_standing at standing)
 
@@ -28,7 +28,7 @@ returns-in-Nothing c =
     let pins = c.args.pins in
     let image = c.args.image.now in
     let m = given (goal.at.returns-in-Nothing c).After-highest-g in
-    let none = grant-is (goal.at.returns-in-Nothing c).After-highest-g ∙ c.in-Nothing.is in
+    let none = grant_is (goal.at.returns-in-Nothing c).After-highest-g ∙ c.in-Nothing.is in
     let known = rw (c.program-op.ensures, c.pc-pc.ensures) at c.is_defined.ensures in record { value = rw (none, known); refused = λ t mem. told_refused pins image mem m c.requires none (sym known ∙ not-true _ t); taken = λ t mem. told_taken pins image mem m c.requires none (sym known ∙ not-false _ t) }
 
 pub returns-in-Request : goal.returns-in-Request
@@ -37,4 +37,4 @@ returns-in-Request c =
     let pins = c.args.pins in
     let image = c.args.image.now in
     let m = given (goal.at.returns-in-Request c).After-highest-g in
-    let some = grant-is (goal.at.returns-in-Request c).After-highest-g ∙ c.in-Request.is in record { value = rw (some); refused = λ t mem. absurd (subst T (sym t) tt); taken = λ t mem. granted_taken pins image mem m c.requires some }
+    let some = grant_is (goal.at.returns-in-Request c).After-highest-g ∙ c.in-Request.is in record { value = rw (some); refused = λ t mem. absurd (subst T (sym t) tt); taken = λ t mem. granted_taken pins image mem m c.requires some }

@@ -24,26 +24,26 @@ memory s = s.args.mem.now
 abbrev given : Start → Machine
 given s = machine_in s.args.regs.now s.args.rest.now
 
-pins-legal : (s : Start) → LegalPins s.args.pins
-pins-legal s = search rules
+pins_legal : (s : Start) → LegalPins s.args.pins
+pins_legal s = search rules
 
-image-read : (s : After-shared_slice_known-1) → AllRead s.args.image.now
-image-read s = read_any s.args.image.now (λ i. omega (arith, s.type_inv.image i))
+image_read : (s : After-shared_slice_known-1) → AllRead s.args.image.now
+image_read s = read_any s.args.image.now (λ i. omega (arith, s.type_inv.image i))
 
-memory-read : (s : After-slice_known-1) → AllRead s.args.mem.now
-memory-read s = read_any s.args.mem.now (λ i. omega (arith, s.type_inv.mem i))
+memory_read : (s : After-slice_known-1) → AllRead s.args.mem.now
+memory_read s = read_any s.args.mem.now (λ i. omega (arith, s.type_inv.mem i))
 
 pub returns-then-cycles-eq0 : goal.returns-then-cycles-eq0
 returns-then-cycles-eq0 c =
-    step_refused c.args.pins (image (goal.at.returns-then-cycles-eq0 c).Start) (memory (goal.at.returns-then-cycles-eq0 c).Start) (given (goal.at.returns-then-cycles-eq0 c).Start) c.requires.legal c.requires.rest_value (image-read (goal.at.returns-then-cycles-eq0 c).After-shared_slice_known-1) _ c.act-cycles.ensures c.if-cycles-eq0.true
+    step_refused c.args.pins (image (goal.at.returns-then-cycles-eq0 c).Start) (memory (goal.at.returns-then-cycles-eq0 c).Start) (given (goal.at.returns-then-cycles-eq0 c).Start) c.requires.legal c.requires.rest_value (image_read (goal.at.returns-then-cycles-eq0 c).After-shared_slice_known-1) _ c.act-cycles.ensures c.if-cycles-eq0.true
 
 pub span-e-requires : goal.span-e-requires
 span-e-requires c =
-    let lp = pins-legal (goal.at.span-e-requires c).Start in
+    let lp = pins_legal (goal.at.span-e-requires c).Start in
     let grant = grant_of (given (goal.at.span-e-requires c).Start) in
-    let sound = granted_sound c.args.pins (image (goal.at.span-e-requires c).Start) (memory (goal.at.span-e-requires c).Start) (given (goal.at.span-e-requires c).Start) grant c.requires.legal lp (image-read (goal.at.span-e-requires c).After-shared_slice_known-1) (memory-read (goal.at.span-e-requires c).After-slice_known-1) in
+    let sound = granted_sound c.args.pins (image (goal.at.span-e-requires c).Start) (memory (goal.at.span-e-requires c).Start) (given (goal.at.span-e-requires c).Start) grant c.requires.legal lp (image_read (goal.at.span-e-requires c).After-shared_slice_known-1) (memory_read (goal.at.span-e-requires c).After-slice_known-1) in
     subst Legal (sym (ap (λ (x : Performed). x.machine) c.act-cycles.ensures)) sound.legal
 
 pub returns : goal.returns
 returns c =
-    step_taken c.args.pins (image (goal.at.returns c).Start) (memory (goal.at.returns c).Start) (given (goal.at.returns c).Start) c.requires.legal c.requires.rest_value (image-read (goal.at.returns c).After-shared_slice_known-1) _ c.act-cycles.ensures _ c.if-cycles-eq0.false c.span-e.ensures
+    step_taken c.args.pins (image (goal.at.returns c).Start) (memory (goal.at.returns c).Start) (given (goal.at.returns c).Start) c.requires.legal c.requires.rest_value (image_read (goal.at.returns c).After-shared_slice_known-1) _ c.act-cycles.ensures _ c.if-cycles-eq0.false c.span-e.ensures

@@ -23,14 +23,14 @@ use Rattle.step.proofs.Good.{Taken}
 use Rattle.step.proofs.steps.Goals as goal
 use Rattle.step.proofs.steps.Goals.{After-compare-ends1, After-shared_slice_known-1, After-slice_known-1, After-step_in-s, Start}
 
-pins-legal : (s : Start) → LegalPins s.args.pins
-pins-legal s = search rules
+pins_legal : (s : Start) → LegalPins s.args.pins
+pins_legal s = search rules
 
-image-read : (s : After-shared_slice_known-1) → AllRead s.args.image.now
-image-read s = read_any s.args.image.now (λ i. omega (arith, s.type_inv.image i))
+image_read : (s : After-shared_slice_known-1) → AllRead s.args.image.now
+image_read s = read_any s.args.image.now (λ i. omega (arith, s.type_inv.image i))
 
-memory-read : (s : After-slice_known-1) → AllRead s.args.mem.now
-memory-read s = read_any s.args.mem.now (λ i. omega (arith, s.type_inv.mem i))
+memory_read : (s : After-slice_known-1) → AllRead s.args.mem.now
+memory_read s = read_any s.args.mem.now (λ i. omega (arith, s.type_inv.mem i))
 
 -- the pins compared, and where the first step is not refused the run is what it is from there
 module _ (s : After-compare-ends1) where
@@ -46,8 +46,8 @@ module _ (s : After-compare-ends1) where
   abbrev compared : Machine
   compared = machine_in s.compare-ends1.new.regs s.compare-ends1.new.rest
 
-  same-run : LegalPins s.args.pins → all_turns s.args.pins image memory compared s.compare-ends1.result s.args.budget ≡ steps_of s.args.pins image memory given s.args.budget
-  same-run lp =
+  same_run : LegalPins s.args.pins → all_turns s.args.pins image memory compared s.compare-ends1.result s.args.budget ≡ steps_of s.args.pins image memory given s.args.budget
+  same_run lp =
       let some : 0 < s.args.budget = omega (arith, s.if-budget-eq0.false) in
       let first = s.is_refused-refused.ensures.taken s.if-refused.false memory in
       compared_before s.args.pins image memory given s.requires.legal lp s.args.budget _ s.compare-ends1.ensures some first
@@ -91,10 +91,10 @@ pub loop-cycles-init : goal.loop-cycles-init
 loop-cycles-init c =
     let m = machine_in c.args.regs.now c.args.rest.now in
     let port3 = c.args.pins.port3 in
-    let legal = subst Legal (sym (ap (λ (x : Comparison). x.machine) c.compare-ends1.ensures)) (compared_legal port3 c.requires.legal (pins-legal (goal.at.loop-cycles-init c).Start).port3_byte) in
+    let legal = subst Legal (sym (ap (λ (x : Comparison). x.machine) c.compare-ends1.ensures)) (compared_legal port3 c.requires.legal (pins_legal (goal.at.loop-cycles-init c).Start).port3_byte) in
     let last = ap (λ (x : Comparison). x.machine.last3) c.compare-ends1.ensures ∙ compared_last m port3 in
     let few = subst (λ (n : ℕ). n ≤ 1) (sym (ap (λ (x : Comparison). x.ends1) c.compare-ends1.ensures)) (compared_ends m port3) in
-    (at_first _ _ _ _ _ _ legal last few (memory-read (goal.at.loop-cycles-init c).After-slice_known-1), refl)
+    (at_first _ _ _ _ _ _ legal last few (memory_read (goal.at.loop-cycles-init c).After-slice_known-1), refl)
 
 pub step_in-s-requires : goal.step_in-s-requires
 step_in-s-requires c = record { legal = c.loop-cycles.invariant.0.legal; rest_value = c.loop-cycles.invariant.0.compared }
@@ -105,35 +105,35 @@ shape_of-mem-then-s-ne-DONE c =
 
 pub returns-then-s-ne-DONE : goal.returns-then-s-ne-DONE
 returns-then-s-ne-DONE c =
-    let lp = pins-legal (goal.at.returns-then-s-ne-DONE c).Start in
-    let li = image-read (goal.at.returns-then-s-ne-DONE c).After-shared_slice_known-1 in
-    was_refused _ _ _ _ _ _ lp li c.loop-cycles.invariant.0 c.loop-cycles-test.true c.step_in-s.ensures c.if-s-ne-DONE.true ∙ same-run (goal.at.returns-then-s-ne-DONE c).After-compare-ends1 (pins-legal (goal.at.returns-then-s-ne-DONE c).Start)
+    let lp = pins_legal (goal.at.returns-then-s-ne-DONE c).Start in
+    let li = image_read (goal.at.returns-then-s-ne-DONE c).After-shared_slice_known-1 in
+    was_refused _ _ _ _ _ _ lp li c.loop-cycles.invariant.0 c.loop-cycles-test.true c.step_in-s.ensures c.if-s-ne-DONE.true ∙ same_run (goal.at.returns-then-s-ne-DONE c).After-compare-ends1 (pins_legal (goal.at.returns-then-s-ne-DONE c).Start)
 
 pub overflow_add-cycles : goal.overflow_add-cycles
 overflow_add-cycles c =
-    let t = taken (goal.at.overflow_add-cycles c).After-step_in-s (pins-legal (goal.at.overflow_add-cycles c).Start) (image-read (goal.at.overflow_add-cycles c).After-shared_slice_known-1) c.if-s-ne-DONE.false in
+    let t = taken (goal.at.overflow_add-cycles c).After-step_in-s (pins_legal (goal.at.overflow_add-cycles c).Start) (image_read (goal.at.overflow_add-cycles c).After-shared_slice_known-1) c.if-s-ne-DONE.false in
     omega (arith, t.costs_high, goes (goal.at.overflow_add-cycles c).After-step_in-s, limited (goal.at.overflow_add-cycles c).After-step_in-s)
 
 pub overflow_add-ends0 : goal.overflow_add-ends0
 overflow_add-ends0 c =
-    let t = taken (goal.at.overflow_add-ends0 c).After-step_in-s (pins-legal (goal.at.overflow_add-ends0 c).Start) (image-read (goal.at.overflow_add-ends0 c).After-shared_slice_known-1) c.if-s-ne-DONE.false in
+    let t = taken (goal.at.overflow_add-ends0 c).After-step_in-s (pins_legal (goal.at.overflow_add-ends0 c).Start) (image_read (goal.at.overflow_add-ends0 c).After-shared_slice_known-1) c.if-s-ne-DONE.false in
     omega (arith, t.costs_high, t.ends0_few, c.loop-cycles.invariant.0.ends0_few, goes (goal.at.overflow_add-ends0 c).After-step_in-s, limited (goal.at.overflow_add-ends0 c).After-step_in-s)
 
 pub overflow_add-ends1 : goal.overflow_add-ends1
 overflow_add-ends1 c =
-    let t = taken (goal.at.overflow_add-ends1 c).After-step_in-s (pins-legal (goal.at.overflow_add-ends1 c).Start) (image-read (goal.at.overflow_add-ends1 c).After-shared_slice_known-1) c.if-s-ne-DONE.false in
+    let t = taken (goal.at.overflow_add-ends1 c).After-step_in-s (pins_legal (goal.at.overflow_add-ends1 c).Start) (image_read (goal.at.overflow_add-ends1 c).After-shared_slice_known-1) c.if-s-ne-DONE.false in
     omega (arith, t.costs_high, t.ends1_few, c.loop-cycles.invariant.0.ends1_few, goes (goal.at.overflow_add-ends1 c).After-step_in-s, limited (goal.at.overflow_add-ends1 c).After-step_in-s)
 
 pub loop-cycles-smaller : goal.loop-cycles-smaller
 loop-cycles-smaller c =
-    let t = taken (goal.at.loop-cycles-smaller c).After-step_in-s (pins-legal (goal.at.loop-cycles-smaller c).Start) (image-read (goal.at.loop-cycles-smaller c).After-shared_slice_known-1) c.if-s-ne-DONE.false in
+    let t = taken (goal.at.loop-cycles-smaller c).After-step_in-s (pins_legal (goal.at.loop-cycles-smaller c).Start) (image_read (goal.at.loop-cycles-smaller c).After-shared_slice_known-1) c.if-s-ne-DONE.false in
     omega (arith, t.costs_low, goes (goal.at.loop-cycles-smaller c).After-step_in-s)
 
 pub loop-cycles-preserved : goal.loop-cycles-preserved
 loop-cycles-preserved c =
-    let t = taken (goal.at.loop-cycles-preserved c).After-step_in-s (pins-legal (goal.at.loop-cycles-preserved c).Start) (image-read (goal.at.loop-cycles-preserved c).After-shared_slice_known-1) c.if-s-ne-DONE.false in
-    let lp = pins-legal (goal.at.loop-cycles-preserved c).Start in
-    let li = image-read (goal.at.loop-cycles-preserved c).After-shared_slice_known-1 in
+    let t = taken (goal.at.loop-cycles-preserved c).After-step_in-s (pins_legal (goal.at.loop-cycles-preserved c).Start) (image_read (goal.at.loop-cycles-preserved c).After-shared_slice_known-1) c.if-s-ne-DONE.false in
+    let lp = pins_legal (goal.at.loop-cycles-preserved c).Start in
+    let li = image_read (goal.at.loop-cycles-preserved c).After-shared_slice_known-1 in
     (one_on _ _ _ _ _ _ lp li c.loop-cycles.invariant.0 c.loop-cycles-test.true c.step_in-s.ensures t, as_long (goal.at.loop-cycles-preserved c).After-step_in-s)
 
 pub shape_of-mem : goal.shape_of-mem
@@ -141,4 +141,4 @@ shape_of-mem c = c.loop-cycles.invariant.1
 
 pub returns : goal.returns
 returns c =
-    reached _ _ _ _ _ _ c.loop-cycles.invariant.0 c.loop-cycles-test.false ∙ same-run (goal.at.returns c).After-compare-ends1 (pins-legal (goal.at.returns c).Start)
+    reached _ _ _ _ _ _ c.loop-cycles.invariant.0 c.loop-cycles-test.false ∙ same_run (goal.at.returns c).After-compare-ends1 (pins_legal (goal.at.returns c).Start)

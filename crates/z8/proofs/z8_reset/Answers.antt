@@ -18,7 +18,7 @@ pub returns : goal.returns
 unfolding reset_call_of
 returns c =
     let refusal = c.if-loaded-ne-DONE.false in
-    let machine-is = load_machine _ _ c.load-loaded.ensures.value refusal in
-    let left = c.save.ensures ∙ ap saved_of (c.reset-started.ensures ∙ ap reset_of machine-is) in
+    let machine_is = load_machine _ _ c.load-loaded.ensures.value refusal in
+    let left = c.save.ensures ∙ ap saved_of (c.reset-started.ensures ∙ ap reset_of machine_is) in
     let none = sym (load_refuses _ _ c.load-loaded.ensures.value) ∙ refusal in
     ap (λ (x : List ℕ). answer 0 x) left ∙ is_done _ _ _ none

@@ -20,7 +20,7 @@ pub returns : goal.returns
 unfolding span_call_of
 returns c =
     let refusal = c.if-loaded-ne-DONE.false in
-    let machine-is = load_machine _ _ c.load-loaded.ensures.value refusal in
-    let went = c.span-p.ensures ∙ ap (λ (m : Machine). span_of c.args.span m) machine-is in
+    let machine_is = load_machine _ _ c.load-loaded.ensures.value refusal in
+    let went = c.span-p.ensures ∙ ap (λ (m : Machine). span_of c.args.span m) machine_is in
     let none = sym (load_refuses _ _ c.load-loaded.ensures.value) ∙ refusal in
     ap (λ (x : LentSpan). answer 0 x) (span_left _ _ _ went c.save.ensures) ∙ is_done _ _ _ none

@@ -15,8 +15,8 @@ use Rattle.z8.proofs.z8_step.Goals.{After-slice_known-2-1, Else-refusal-ne-DONE,
 abbrev pins : Start → Pins
 pins s = pins_given s.args.pins0 s.args.pins1 s.args.pins2 s.args.pins3
 
-pins-legal : (s : Start) → LegalPins (pins s)
-pins-legal s = search rules
+pins_legal : (s : Start) → LegalPins (pins s)
+pins_legal s = search rules
 
 -- past the first refusals
 known : (s : Else-refusal-ne-DONE) → Admitted s.args.saved.now s.args.image.now s.args.memory.now s.load-loaded.result.machine
@@ -34,9 +34,9 @@ unfolding step_call_of
 returns-then-s-ne-DONE c =
     let st = (goal.at.returns-then-s-ne-DONE c).Start in
     let went = c.step-s.ensures ∙ ap (λ (m : Machine). step_of (pins st) c.args.image.now c.args.memory.now m) (known (goal.at.returns-then-s-ne-DONE c).Else-refusal-ne-DONE).is in
-    let image-read = read_any c.args.image.now (λ i. omega (arith, c.type_inv.image i)) in
-    let memory-read = read_any c.args.memory.now (λ i. omega (arith, (goal.at.returns-then-s-ne-DONE c).After-slice_known-2-1.type_inv.memory i)) in
-    let stays = memory_stays (pins st) _ _ _ _ _ (known (goal.at.returns-then-s-ne-DONE c).Else-refusal-ne-DONE).legal (pins-legal st) image-read memory-read c.step-s.ensures c.if-s-ne-DONE.true in
+    let image_read = read_any c.args.image.now (λ i. omega (arith, c.type_inv.image i)) in
+    let memory_read = read_any c.args.memory.now (λ i. omega (arith, (goal.at.returns-then-s-ne-DONE c).After-slice_known-2-1.type_inv.memory i)) in
+    let stays = memory_stays (pins st) _ _ _ _ _ (known (goal.at.returns-then-s-ne-DONE c).Else-refusal-ne-DONE).legal (pins_legal st) image_read memory_read c.step-s.ensures c.if-s-ne-DONE.true in
     rw stays (is_refused _ _ _ _ ((known (goal.at.returns-then-s-ne-DONE c).Else-refusal-ne-DONE).next _ ∙ sym (number_is _ _ _ went)) c.if-s-ne-DONE.true)
 
 pub save-requires : goal.save-requires

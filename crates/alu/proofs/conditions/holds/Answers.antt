@@ -18,9 +18,9 @@ byFlags code c z s v = get_or (conditions (eqb c 1) (eqb z 1) (eqb s 1) (eqb v 1
 same_flags : (code : ℕ) {c z s v d y t w : ℕ} → c ≡ d → z ≡ y → s ≡ t → v ≡ w → byFlags code c z s v ≡ byFlags code d y t w
 same_flags code ec ez es ev = rw (ec, ez, es, ev)
 
-upper-alone : (code f : ℕ) → holds_of code (upper f * 16) ≡ holds_of code f
+upper_alone : (code f : ℕ) → holds_of code (upper f * 16) ≡ holds_of code f
 unfolding holds_of byFlags
-upper-alone code f =
+upper_alone code f =
     let c : bit_of 7 (upper f * 16) ≡ bit_of 7 f = omega arith in
     let z : bit_of 6 (upper f * 16) ≡ bit_of 6 f = omega arith in
     let s : bit_of 5 (upper f * 16) ≡ bit_of 5 f = omega arith in
@@ -34,4 +34,4 @@ returns-then-cc-eq8 c = rw c.if-cc-eq8.true
 pub returns : goal.returns
 returns c =
     let row : c.holding.result ≡ holding_of (upper c.args.f) = c.holding.ensures in
-    rw row (in_row c.args.cc (upper c.args.f) (omega arith) (omega arith) ∙ upper-alone c.args.cc c.args.f)
+    rw row (in_row c.args.cc (upper c.args.f) (omega arith) (omega arith) ∙ upper_alone c.args.cc c.args.f)

@@ -7,8 +7,8 @@ use Rattle.perform.proofs.Arms.{di_arm, ei_arm, ret_arm, iret_arm, rcf_arm, scf_
 use Rattle.perform.proofs.alone.alone.Goals as goal
 use Rattle.perform.proofs.alone.alone.Goals.{Start}
 
-op-below : (s : Start) → s.args.i.op < 256
-op-below s = search rules
+op_below : (s : Start) → s.args.i.op < 256
+op_below s = search rules
 
 pub returns-in-8 : goal.returns-in-8
 returns-in-8 c = rw c.interrupts.ensures (di_arm _ _ c.requires c.in-8.is)
@@ -42,4 +42,4 @@ unfolding entry_of opcode_map
 returns-in_default c =
     let column : lower c.args.i.op ≡ 15 = omega (arith, c.requires.low, c.requires.high) in
     rw (c.refused.ensures.value, c.refused.ensures.back)
-    (blank_is_refused _ _ _ _ _ _ (alone_blank c.args.i.op (op-below (goal.at.returns-in_default c).Start) column c.in_default.in_default-own.rest))
+    (blank_is_refused _ _ _ _ _ _ (alone_blank c.args.i.op (op_below (goal.at.returns-in_default c).Start) column c.in_default.in_default-own.rest))

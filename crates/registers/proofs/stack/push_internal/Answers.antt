@@ -5,8 +5,8 @@ use Rattle.registers.proofs.stack.push_internal.Goals as goal
 pub returns : goal.returns
 unfolding pushed_internal placed
 returns c =
-    let spl-put = c.place.ensures in
+    let spl_put = c.place.ensures in
     let lowered = c.wrapping_add_u8-sp.ensures.value in
-    let old-spl = c.held-spl.ensures in
-    let how-many = c.count_of-n.ensures.0 in
-    rw (c.write_from.ensures, spl-put, lowered, old-spl, how-many)
+    let old_spl = c.held-spl.ensures in
+    let how_many = c.count_of-n.ensures.0 in
+    rw (c.write_from.ensures, spl_put, lowered, old_spl, how_many)
