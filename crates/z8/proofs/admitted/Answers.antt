@@ -23,6 +23,6 @@ returns-then-refusal-ne-DONE c =
 pub returns : goal.returns
 unfolding admitted_of
 returns c =
-    let loaded : eqb c.args.saved 0 ≡ true = eq-eqb _ _ c.if-saved-ne-DONE.false in
+    let legal : eqb c.args.saved 0 ≡ true = eq-eqb _ _ c.if-saved-ne-DONE.false in
     let taken : eqb c.image_refusal-refusal.result 0 ≡ true = eq-eqb _ _ c.if-refusal-ne-DONE.false in
-    rw (loaded, ← c.image_refusal-refusal.ensures, taken, ← c.memory_refusal.ensures) (sym (one_more [] _))
+    rw (legal, ← c.image_refusal-refusal.ensures, taken, ← c.memory_refusal.ensures) (sym (one_more [] _))
