@@ -1,14 +1,11 @@
 -- What an operation answers for bytes is a byte, and the flags that it sets are bits of one; a word's is a word.
-use Rattle.std.proofs.Common.{ℕ, ◌+◌, ◌-◌, ◌*◌, ◌/◌, ◌%◌, ◌<◌, Bool, true, false, not, ◌&&◌, T, eqb, ltb, refl, arith, lit<, ltb→lt}
+use Rattle.std.proofs.Common.{Option, Some, None, ℕ, ◌+◌, ◌-◌, ◌*◌, ◌/◌, ◌%◌, ◌<◌, Bool, true, not, ◌&&◌, T, eqb, ltb, refl, arith, lit<, ltb→lt}
 use lib.Bits.{bit_and, and_lt, or_lt, xor_lt}
-use Rattle.word.specs.Choose.{one_if}
 use Rattle.word.specs.Words.{plus}
 use Rattle.word.proofs.Computed.{by_test, and_left, and_right, agree3}
+use Rattle.alu.proofs.Carries.{one_if_bit}
 use Rattle.alu.specs.declared.Flags.{Flags}
 use Rattle.alu.specs.declared.Outcome.{Outcome}
-use Rattle.alu.specs.declared.WordOutcome.{WordOutcome}
-use Rattle.alu.specs.declared.Adjusted.{Adjusted}
-use Rattle.alu.specs.declared.Adjusted.TheVariants.{By, NoRow}
 use Rattle.alu.specs.FlagByte.{packed, laid, flag_c, flag_d, flag_h, is_zero, sign8, sign16, rcf_of, scf_of, ccf_of}
 use Rattle.alu.specs.Arithmetic.{addition_of, add_of, adc_of, difference_of, subtraction_of, sub_of, sbc_of, cp_of, counted, inc_of, dec_of, incw_of, decw_of, sum_overflow, difference_overflow}
 use Rattle.alu.specs.Logical.{logic_flags, and_of, or_of, xor_of, com_of, tm_of, tcm_of}
@@ -18,15 +15,11 @@ use Rattle.alu.specs.Decimal.{after_addition, after_subtraction, by_rows, adjust
 abbrev pub ByteFlags : Flags → Type 0
 ByteFlags e = e.ones < 256
 
-abbrev pub ByteOutcome : Outcome → Type 0
+abbrev pub ByteOutcome : Outcome ℕ → Type 0
 ByteOutcome o = (o.value < 256) × ByteFlags o.flags
 
-abbrev pub WordFits : WordOutcome → Type 0
+abbrev pub WordFits : Outcome ℕ → Type 0
 WordFits o = (o.value < 65536) × ByteFlags o.flags
-
-one_if_bit : (b : Bool) → one_if b < 2
-one_if_bit true = lit< tt
-one_if_bit false = lit< tt
 
 -- six bits in their places
 packed_byte : {c z s v d h : ℕ} → c < 2 → z < 2 → s < 2 → v < 2 → d < 2 → h < 2 → packed c z s v d h < 256
@@ -169,18 +162,18 @@ unfolding swap_of
 swap_byte a h = (omega arith, packed_byte (lit< tt) (zero_bit (a % 16 * 16 + a / 16)) (omega arith) (lit< tt) (lit< tt) (lit< tt))
 
 -- DA, by computing it at every byte, C and H
-abbrev pub ByteAdjusted : Adjusted → Type 0
-ByteAdjusted (By o) = ByteOutcome o
-ByteAdjusted NoRow = Unit {0}
+abbrev pub ByteAdjusted : Option (Outcome ℕ) → Type 0
+ByteAdjusted (Some o) = ByteOutcome o
+ByteAdjusted None = Unit {0}
 
-abbrev fits : Adjusted → Bool
-fits (By o) = ltb o.value 256 && ltb o.flags.ones 256
-fits NoRow = true
+abbrev fits : Option (Outcome ℕ) → Bool
+fits (Some o) = ltb o.value 256 && ltb o.flags.ones 256
+fits None = true
 
-fitting : (x : Adjusted) → T (fits x) → ByteAdjusted x
-fitting (By o) t =
+fitting : (x : Option (Outcome ℕ)) → T (fits x) → ByteAdjusted x
+fitting (Some o) t =
     (ltb→lt o.value 256 (and_left (ltb o.value 256) (ltb o.flags.ones 256) t), ltb→lt o.flags.ones 256 (and_right (ltb o.value 256) (ltb o.flags.ones 256) t))
-fitting NoRow t = tt
+fitting None t = tt
 
 pub da_byte : (v f : ℕ) → v < 256 → ByteAdjusted (da_of v f)
 unfolding da_of by_rows after_addition after_subtraction adjusted_by packed

@@ -1,10 +1,8 @@
 -- DA, by the rows of its page.
-use Rattle.std.specs.Prelude.{ℕ, ◌+◌, ◌%◌, Bool, ◌&&◌, List, [], ◌∷◌, ◌==◌, nat_le}
+use Rattle.std.specs.Prelude.{ℕ, ◌+◌, ◌%◌, Option, Some, None, Bool, ◌&&◌, List, [], ◌∷◌, ◌==◌, nat_le}
 use Rattle.word.specs.Choose.{pick}
 use Rattle.word.specs.Fields.{upper, lower}
 use Rattle.alu.specs.declared.Outcome.{Outcome}
-use Rattle.alu.specs.declared.Adjusted.{Adjusted}
-use Rattle.alu.specs.declared.Adjusted.TheVariants.{By, NoRow}
 use Rattle.alu.specs.FlagByte.{flag_c, flag_d, flag_h, page, unaffected, undefined, to, is_zero, sign8}
 
 -- a row of the page's table
@@ -39,19 +37,19 @@ fits (row c₀ from to₀ h₀ low high add after) v c h =
     (c == c₀) && (nat_le from (upper v) && (nat_le (upper v) to₀ && (h == h₀ && (nat_le low (lower v) && nat_le (lower v) high))))
 
 -- what the row makes of the byte. C: "see table above"; V: "undefined"; H and D unaffected
-unfoldable pub adjusted_by : ℕ → ℕ → ℕ → Outcome
+unfoldable pub adjusted_by : ℕ → ℕ → ℕ → Outcome ℕ
 adjusted_by v add after =
     let r : ℕ = (v + add) % 256 in
     record { value = r; flags = page (to after) (to (is_zero r)) (to (sign8 r)) undefined unaffected unaffected }
 
-abbrev pub by_row : Row → ℕ → Outcome
+abbrev pub by_row : Row → ℕ → Outcome ℕ
 by_row (row c₀ from to₀ h₀ low high add after) v = adjusted_by v add after
 
 -- the first row that is for this byte, C and H; a combination in no row changes nothing, flags included (HOUSE)
-unfoldable pub by_rows : List Row → ℕ → ℕ → ℕ → Adjusted
-by_rows [] v c h = NoRow
-by_rows (r ∷ rs) v c h = pick (fits r v c h) (By (by_row r v)) (by_rows rs v c h)
+unfoldable pub by_rows : List Row → ℕ → ℕ → ℕ → Option (Outcome ℕ)
+by_rows [] v c h = None
+by_rows (r ∷ rs) v c h = pick (fits r v c h) (Some (by_row r v)) (by_rows rs v c h)
 
 -- the rows by D of the flags read: "this flag specifies what type of instruction was last executed" (5.2.5)
-unfoldable pub da_of : ℕ → ℕ → Adjusted
+unfoldable pub da_of : ℕ → ℕ → Option (Outcome ℕ)
 da_of v read = pick (flag_d read == 0) (by_rows after_addition v (flag_c read) (flag_h read)) (by_rows after_subtraction v (flag_c read) (flag_h read))

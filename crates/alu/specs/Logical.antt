@@ -7,20 +7,20 @@ use Rattle.alu.specs.FlagByte.{page, unaffected, to, is_zero, sign8}
 unfoldable pub logic_flags : ℕ → Flags
 logic_flags r = page unaffected (to (is_zero r)) (to (sign8 r)) (to 0) unaffected unaffected
 
-abbrev logic : ℕ → Outcome
+abbrev pub logic : ℕ → Outcome ℕ
 logic r = record { value = r; flags = logic_flags r }
 
-unfoldable pub and_of : ℕ → ℕ → Outcome
+unfoldable pub and_of : ℕ → ℕ → Outcome ℕ
 and_of a b = logic (bit_and a b)
 
-unfoldable pub or_of : ℕ → ℕ → Outcome
+unfoldable pub or_of : ℕ → ℕ → Outcome ℕ
 or_of a b = logic (bit_or a b)
 
-unfoldable pub xor_of : ℕ → ℕ → Outcome
+unfoldable pub xor_of : ℕ → ℕ → Outcome ℕ
 xor_of a b = logic (bit_xor a b)
 
 -- "all 1 bits are changed to 0, and vice-versa"
-unfoldable pub com_of : ℕ → Outcome
+unfoldable pub com_of : ℕ → Outcome ℕ
 com_of a = logic (255 - a)
 
 -- dst AND src, stored nowhere

@@ -1,95 +1,61 @@
 // DA, by the rows of its page.
-ghost use Rattle.std.specs.Prelude.{◌≡◌, ◌<◌};
+#![tactic(auto, unfolding(crate::specs::FlagByte::packed, crate::specs::Decimal::adjusted_by, crate::specs::Decimal::after_addition, crate::specs::Decimal::after_subtraction, crate::specs::Decimal::by_rows, crate::specs::Decimal::da_of))]
+
+ghost use Rattle.std.specs.Prelude.{◌≡◌, Some};
+ghost use Rattle.word.specs.Choose.{one_if};
 ghost use Rattle.alu.specs.Decimal.{adjusted_by, after_addition, after_subtraction, by_rows, da_of};
 
-use crate::{Adjusted, Flags, Outcome};
+use crate::{Flags, Outcome};
 
 // What a row makes of the byte v: the number added, the carry after.
-fn by(v: u8, add: u8, after: u8) -> Adjusted
-    requires { after < 2 }
-    ensures { result ≡ Adjusted.By (adjusted_by v add after) }
+fn by(v: u8, add: u8, after: bool) -> Option<Outcome<u8>>
+    ensures { result ≡ Some (adjusted_by v add (one_if after)) }
 {
-    let value = std::num::wrapping_add_u8(v, add);
-    let z = word::bits_if(value == 0, 1);
-    let ones = crate::pack(after, z, value / 128, 0, 0, 0);
-    let flags = Flags {
-        affected: Flags::CZS,
-        ones,
-    };
-    let o = Outcome { value, flags };
-    Adjusted::By(o)
+    let value = v.wrapping_add(add);
+    let flags = Flags::of_result(Flags::CZS, value, after, false, false, false);
+    Some(Outcome { value, flags })
 }
 
-// The rows for ADD and ADC.
-fn after_addition(v: u8, c: u8, h: u8) -> Adjusted
-    requires c_bound { c < 2 }
-    requires h_bound { h < 2 }
-    ensures { result ≡ by_rows after_addition v c h }
+// The rows for ADD and ADC, by C, bits 4-7, H and bits 0-3.
+fn after_addition(v: u8, c: bool, h: bool) -> Option<Outcome<u8>>
+    ensures { result ≡ by_rows after_addition v (one_if c) (one_if h) }
 {
-    let hi = v / 16;
-    let lo = v % 16;
-    if (c == 0) & (hi <= 0x9) & (h == 0) & (lo <= 0x9) {
-        return by(v, 0x00, 0);
+    match (c, v / 16, h, v % 16) {
+        (false, 0x0..=0x9, false, 0x0..=0x9) => by(v, 0x00, false),
+        (false, 0x0..=0x8, false, 0xA..=0xF) => by(v, 0x06, false),
+        (false, 0x0..=0x9, true, 0x0..=0x3) => by(v, 0x06, false),
+        (false, 0xA..=0xF, false, 0x0..=0x9) => by(v, 0x60, true),
+        (false, 0x9..=0xF, false, 0xA..=0xF) => by(v, 0x66, true),
+        (false, 0xA..=0xF, true, 0x0..=0x3) => by(v, 0x66, true),
+        (true, 0x0..=0x2, false, 0x0..=0x9) => by(v, 0x60, true),
+        (true, 0x0..=0x2, false, 0xA..=0xF) => by(v, 0x66, true),
+        (true, 0x0..=0x3, true, 0x0..=0x3) => by(v, 0x66, true),
+        _ => None,
     }
-    if (c == 0) & (hi <= 0x8) & (h == 0) & (0xA <= lo) {
-        return by(v, 0x06, 0);
-    }
-    if (c == 0) & (hi <= 0x9) & (h == 1) & (lo <= 0x3) {
-        return by(v, 0x06, 0);
-    }
-    if (c == 0) & (0xA <= hi) & (h == 0) & (lo <= 0x9) {
-        return by(v, 0x60, 1);
-    }
-    if (c == 0) & (0x9 <= hi) & (h == 0) & (0xA <= lo) {
-        return by(v, 0x66, 1);
-    }
-    if (c == 0) & (0xA <= hi) & (h == 1) & (lo <= 0x3) {
-        return by(v, 0x66, 1);
-    }
-    if (c == 1) & (hi <= 0x2) & (h == 0) & (lo <= 0x9) {
-        return by(v, 0x60, 1);
-    }
-    if (c == 1) & (hi <= 0x2) & (h == 0) & (0xA <= lo) {
-        return by(v, 0x66, 1);
-    }
-    if (c == 1) & (hi <= 0x3) & (h == 1) & (lo <= 0x3) {
-        return by(v, 0x66, 1);
-    }
-    Adjusted::NoRow
 }
 
-// The rows for SUB and SBC.
-fn after_subtraction(v: u8, c: u8, h: u8) -> Adjusted
-    requires c_bound { c < 2 }
-    requires h_bound { h < 2 }
-    ensures { result ≡ by_rows after_subtraction v c h }
+// The rows for SUB and SBC: beside the others, as they are the page's second table, and all that differs is its rows (no plainer as one).
+fn after_subtraction(v: u8, c: bool, h: bool) -> Option<Outcome<u8>>
+    ensures { result ≡ by_rows after_subtraction v (one_if c) (one_if h) }
 {
-    let hi = v / 16;
-    let lo = v % 16;
-    if (c == 0) & (hi <= 0x9) & (h == 0) & (lo <= 0x9) {
-        return by(v, 0x00, 0);
+    match (c, v / 16, h, v % 16) {
+        (false, 0x0..=0x9, false, 0x0..=0x9) => by(v, 0x00, false),
+        (false, 0x0..=0x8, true, 0x6..=0xF) => by(v, 0xFA, false),
+        (true, 0x7..=0xF, false, 0x0..=0x9) => by(v, 0xA0, true),
+        (true, 0x6..=0xF, true, 0x6..=0xF) => by(v, 0x9A, true),
+        _ => None,
     }
-    if (c == 0) & (hi <= 0x8) & (h == 1) & (0x6 <= lo) {
-        return by(v, 0xFA, 0);
-    }
-    if (c == 1) & (0x7 <= hi) & (h == 0) & (lo <= 0x9) {
-        return by(v, 0xA0, 1);
-    }
-    if (c == 1) & (0x6 <= hi) & (h == 1) & (0x6 <= lo) {
-        return by(v, 0x9A, 1);
-    }
-    Adjusted::NoRow
 }
 
-pub fn da(v: u8, read: u8) -> Adjusted
+pub fn da(v: u8, read: u8) -> Option<Outcome<u8>>
     ensures { result ≡ da_of v read }
 {
-    let c = word::bit(7, read);
-    let d = word::bit(3, read);
-    let h = word::bit(2, read);
-    if d == 0 {
-        after_addition(v, c, h)
-    } else {
+    let c = crate::carry(read);
+    let d = word::is_set(3, read);
+    let h = word::is_set(2, read);
+    if d {
         after_subtraction(v, c, h)
+    } else {
+        after_addition(v, c, h)
     }
 }

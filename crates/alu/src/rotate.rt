@@ -1,88 +1,72 @@
 // RL, RLC, RR, RRC, SRA, SWAP.
-ghost use Rattle.std.specs.Prelude.{◌≡◌, ◌<◌, not, ◌==◌};
+#![tactic(auto, unfolding(crate::specs::FlagByte::packed, crate::specs::Rotate::rotate_flags, crate::specs::Rotate::rl_of, crate::specs::Rotate::rlc_of, crate::specs::Rotate::rr_of, crate::specs::Rotate::rrc_of, crate::specs::Rotate::sra_of, crate::specs::Rotate::swap_of))]
+
+ghost use Rattle.std.specs.Prelude.{◌≡◌, ◌+◌, ◌*◌, ◌/◌, ◌%◌};
 ghost use Rattle.word.specs.Choose.{one_if};
-ghost use Rattle.alu.specs.Rotate.{rotate_flags, rl_of, rlc_of, rr_of, rrc_of, sra_of, swap_of};
+ghost use Rattle.alu.specs.Rotate.{rotated, rl_of, rlc_of, rr_of, rrc_of, sra_of, swap_of};
 
 use crate::{Flags, Outcome};
 
-// V of a rotation, by the signs of destination and result.
-fn rotate_overflow(dst: u8, r: u8) -> u8
-    requires dst_bound { dst < 2 }
-    requires r_bound { r < 2 }
-    ensures is { result ≡ one_if (not (dst == r)) }
-    ensures bit { result < 2 }
+// The rotation of a to r, with a bit rotated out. V: whether the sign changed.
+fn rotated(out: bool, a: u8, r: u8) -> Outcome<u8>
+    ensures { result ≡ rotated (one_if out) a r }
 {
-    dst ^ r
+    let v = crate::sign(a) != crate::sign(r);
+    let flags = Flags::of_result(Flags::CZSV, r, out, v, false, false);
+    Outcome { value: r, flags }
 }
 
-// After the rotation of a to r, with a bit rotated out.
-fn rotate_flags(out: u8, a: u8, r: u8) -> Flags
-    requires { out < 2 }
-    ensures { result ≡ rotate_flags out a r }
+// Left one bit, with this one rotated in.
+fn left(a: u8, low: bool) -> Outcome<u8>
+    ensures { result ≡ rotated (a / 128) a (a % 128 * 2 + one_if low) }
 {
-    let z = word::bits_if(r == 0, 1);
-    let v = rotate_overflow(a / 128, r / 128);
-    let ones = crate::pack(out, z, r / 128, v, 0, 0);
-    Flags {
-        affected: Flags::CZSV,
-        ones,
-    }
+    rotated(crate::sign(a), a, a % 128 * 2 + u8::from(low))
 }
 
-pub fn rl(a: u8) -> Outcome
+// Right one bit, with this one rotated in.
+fn right(a: u8, high: bool) -> Outcome<u8>
+    ensures { result ≡ rotated (a % 2) a (a / 2 + one_if high * 128) }
+{
+    rotated(word::is_set(0, a), a, a / 2 + u8::from(high) * 128)
+}
+
+pub fn rl(a: u8) -> Outcome<u8>
     ensures { result ≡ rl_of a }
 {
-    let value = a % 128 * 2 + a / 128;
-    let flags = rotate_flags(a / 128, a, value);
-    Outcome { value, flags }
+    left(a, crate::sign(a))
 }
 
-pub fn rlc(a: u8, read: u8) -> Outcome
+pub fn rlc(a: u8, read: u8) -> Outcome<u8>
     ensures { result ≡ rlc_of a read }
 {
-    let value = a % 128 * 2 + word::bit(7, read);
-    let flags = rotate_flags(a / 128, a, value);
-    Outcome { value, flags }
+    left(a, crate::carry(read))
 }
 
-pub fn rr(a: u8) -> Outcome
+pub fn rr(a: u8) -> Outcome<u8>
     ensures { result ≡ rr_of a }
 {
-    let value = a / 2 + a % 2 * 128;
-    let flags = rotate_flags(a % 2, a, value);
-    Outcome { value, flags }
+    right(a, word::is_set(0, a))
 }
 
-pub fn rrc(a: u8, read: u8) -> Outcome
+pub fn rrc(a: u8, read: u8) -> Outcome<u8>
     ensures { result ≡ rrc_of a read }
 {
-    let value = a / 2 + word::bit(7, read) * 128;
-    let flags = rotate_flags(a % 2, a, value);
-    Outcome { value, flags }
+    right(a, crate::carry(read))
 }
 
-pub fn sra(a: u8) -> Outcome
+pub fn sra(a: u8) -> Outcome<u8>
     ensures { result ≡ sra_of a }
 {
     let value = a / 2 + a / 128 * 128;
-    let z = word::bits_if(value == 0, 1);
-    let ones = crate::pack(a % 2, z, value / 128, 0, 0, 0);
-    let flags = Flags {
-        affected: Flags::CZSV,
-        ones,
-    };
+    let out = word::is_set(0, a);
+    let flags = Flags::of_result(Flags::CZSV, value, out, false, false, false);
     Outcome { value, flags }
 }
 
-pub fn swap(a: u8) -> Outcome
+pub fn swap(a: u8) -> Outcome<u8>
     ensures { result ≡ swap_of a }
 {
     let value = a % 16 * 16 + a / 16;
-    let z = word::bits_if(value == 0, 1);
-    let ones = crate::pack(0, z, value / 128, 0, 0, 0);
-    let flags = Flags {
-        affected: Flags::ZS,
-        ones,
-    };
+    let flags = Flags::of_result(Flags::ZS, value, false, false, false, false);
     Outcome { value, flags }
 }

@@ -5,13 +5,11 @@ ghost use Rattle.std.specs.Prelude.{◌≡◌};
 ghost use Rattle.machine.specs.Clock.{control_with, control_of, moving_of, enabling, counts_at, moved_to, write_tmr, span_of};
 ghost use Rattle.machine.specs.Serial.{port_mode};
 ghost use Rattle.machine.specs.Legal.{Legal};
-ghost use Rattle.lent.specs.View.{machine_in};
 ghost use Rattle.clock.specs.ForCode.{ran_of};
 
-use lent::Rest;
-use machine::{File, names};
+use machine::{Machine, names};
 use serial::Mode;
-use timers::{Control, Counting, Lines, Moving, RequestRegister, Timer};
+use timers::{Control, Counting, Lines, Moving, RequestRegister};
 
 // Each timer's ends in some cycles.
 #[derive(Clone, Copy)]
@@ -21,79 +19,65 @@ pub struct Ends {
 }
 
 // What the serial port reads of a machine.
-pub fn port_mode(regs: &File, rest: &Rest) -> Mode
-    ensures { result ≡ port_mode (machine_in regs.now rest.now) }
+#[tactic(auto, unfolding(machine::specs::Serial::port_mode))]
+pub fn port_mode(m: &Machine) -> Mode
+    ensures { result ≡ port_mode m.now }
 {
-    let p3m = machine::file::held(regs, names::P3M);
-    let port3 = lent::last3(rest);
-    timers::registers::port_mode(p3m, port3)
+    timers::registers::port_mode(m.held(names::P3M), m.last3)
 }
 
-fn control_with(regs: &File, rest: &Rest, tmr: u8) -> Control
-    ensures { result ≡ control_with (machine_in regs.now rest.now) tmr }
+#[tactic(auto, unfolding(machine::specs::Clock::control_with))]
+fn control_with(m: &Machine, tmr: u8) -> Control
+    ensures { result ≡ control_with m.now tmr }
 {
-    let t1 = machine::file::held(regs, names::T1);
-    let pre1 = machine::file::held(regs, names::PRE1);
-    let t0 = machine::file::held(regs, names::T0);
-    let pre0 = machine::file::held(regs, names::PRE0);
-    let p3m = machine::file::held(regs, names::P3M);
-    let port3 = lent::last3(rest);
     Control {
         tmr,
-        t1,
-        pre1,
-        t0,
-        pre0,
-        p3m,
-        port3,
+        t1: m.held(names::T1),
+        pre1: m.held(names::PRE1),
+        t0: m.held(names::T0),
+        pre0: m.held(names::PRE0),
+        p3m: m.held(names::P3M),
+        port3: m.last3,
     }
 }
 
 // What they read of a machine.
-pub fn control_of(regs: &File, rest: &Rest) -> Control
-    ensures { result ≡ control_of (machine_in regs.now rest.now) }
+#[tactic(auto, unfolding(machine::specs::Clock::control_of))]
+pub fn control_of(m: &Machine) -> Control
+    ensures { result ≡ control_of m.now }
 {
-    let tmr = machine::file::held(regs, names::TMR);
-    control_with(regs, rest, tmr)
+    control_with(m, m.held(names::TMR))
 }
 
 // What cycles move of a machine.
-pub fn moving_of(regs: &File, rest: &Rest) -> Moving
-    ensures { result ≡ moving_of (machine_in regs.now rest.now) }
+#[tactic(auto, unfolding(machine::specs::Clock::moving_of))]
+pub fn moving_of(m: &Machine) -> Moving
+    ensures { result ≡ moving_of m.now }
 {
-    let tmr = machine::file::held(regs, names::TMR);
-    let irq = machine::file::held(regs, names::IRQ);
-    let released = lent::released(rest);
-    let on0 = word::is_set(1, tmr);
-    let on1 = word::is_set(3, tmr);
-    let divider = lent::divider(rest);
-    let timer0 = lent::t0(rest);
-    let timer1 = lent::t1(rest);
-    let tout = lent::tout(rest);
-    let port = lent::port(rest);
-    let t0 = Counting {
-        timer: timer0,
-        enabled: on0,
-    };
-    let t1 = Counting {
-        timer: timer1,
-        enabled: on1,
-    };
-    let requests = RequestRegister { irq, released };
-    let lines = Lines {
-        requests,
-        tout,
-        port,
-    };
+    let tmr = m.held(names::TMR);
     Moving {
-        divider,
-        t0,
-        t1,
-        lines,
+        divider: m.divider,
+        t0: Counting {
+            timer: m.t0,
+            enabled: word::is_set(1, tmr),
+        },
+        t1: Counting {
+            timer: m.t1,
+            enabled: word::is_set(3, tmr),
+        },
+        lines: Lines {
+            requests: RequestRegister {
+                irq: m.held(names::IRQ),
+                released: m.released,
+            },
+            tout: m.tout,
+            port: m.port,
+        },
     }
 }
 
 // TMR with these enable bits.
+#[tactic(auto, unfolding(machine::specs::Clock::enabling))]
 fn enabling(tmr: u8, on0: bool, on1: bool) -> u8
     ensures { result ≡ enabling tmr on0 on1 }
 {
@@ -103,79 +87,64 @@ fn enabling(tmr: u8, on0: bool, on1: bool) -> u8
 }
 
 // The machine with these counts and this T_OUT level; the file stays.
-fn put(regs: &File, rest: &mut Rest, x: Moving)
-    ensures { machine_in regs.now rest.new ≡ counts_at (machine_in regs.now rest.old) x }
+#[tactic(auto, unfolding(machine::specs::Clock::counts_at))]
+fn put(m: &mut Machine, x: Moving)
+    ensures { m.new ≡ counts_at m.old x }
 {
-    let counting0 = x.t0;
-    let counting1 = x.t1;
-    let lines = x.lines;
-    let t0 = counting0.timer;
-    let t1 = counting1.timer;
-    lent::set_counts(rest, x.divider, t0, t1);
-    lent::set_tout(rest, lines.tout);
+    m.divider = x.divider;
+    m.t0 = x.t0.timer;
+    m.t1 = x.t1.timer;
+    m.tout = x.lines.tout;
 }
 
 // The machine with all that cycles move as given.
-pub fn move_to(regs: &mut File, rest: &mut Rest, x: Moving)
-    ensures { machine_in regs.new rest.new ≡ moved_to (machine_in regs.old rest.old) x }
+#[tactic(auto, unfolding(machine::specs::Clock::moved_to, machine::specs::State::with_released, machine::specs::State::with_port))]
+pub fn move_to(m: &mut Machine, x: Moving)
+    ensures { m.new ≡ moved_to m.old x }
 {
-    let counting0 = x.t0;
-    let counting1 = x.t1;
-    let lines = x.lines;
-    let requests = lines.requests;
-    let port = lines.port;
-    let tmr = machine::file::held(regs, names::TMR);
-    let enabled = enabling(tmr, counting0.enabled, counting1.enabled);
-    put(regs, rest, x);
-    lent::set_port(regs, rest, port);
-    lent::set_released(regs, rest, requests.released);
-    machine::file::place(regs, names::TMR, enabled);
-    machine::file::place(regs, names::IRQ, requests.irq);
+    let tmr = m.held(names::TMR);
+    put(m, x);
+    m.port = x.lines.port;
+    m.released = x.lines.requests.released;
+    m.place(names::TMR, enabling(tmr, x.t0.enabled, x.t1.enabled));
+    m.place(names::IRQ, x.lines.requests.irq);
 }
 
 // A write to TMR.
-pub fn write_tmr(regs: &mut File, rest: &mut Rest, v: u8)
-    ensures { machine_in regs.new rest.new ≡ write_tmr (machine_in regs.old rest.old) v }
+#[tactic(auto, unfolding(machine::specs::Clock::write_tmr))]
+pub fn write_tmr(m: &mut Machine, v: u8)
+    ensures { m.new ≡ write_tmr m.old v }
 {
-    let c = control_with(regs, rest, v);
-    let m = moving_of(regs, rest);
-    let x = timers::clock::write_tmr(c, m);
-    let kept = timers::registers::kept(v);
-    put(regs, rest, x);
-    machine::file::place(regs, names::TMR, kept);
+    let x = timers::clock::write_tmr(control_with(m, v), moving_of(m));
+    put(m, x);
+    m.place(names::TMR, timers::registers::kept(v));
 }
 
-// n cycles of a machine, by division: the long move.
-pub fn long_span(regs: &mut File, rest: &mut Rest, n: u32) -> Ends
-    requires { Legal (machine_in regs.old rest.old) }
-    ensures { ran_of (machine_in regs.new rest.new) result ≡ span_of n (machine_in regs.old rest.old) }
+// n cycles of a machine, by division: the long move. (That the machine is legal is asked here and above, and is no part of its type, as
+// `Machine` says.)
+#[tactic(auto, using(machine::proofs::Lens::span_is), unfolding(machine::specs::Clock::shown))]
+pub fn long_span(m: &mut Machine, n: u32) -> Ends
+    requires { Legal m.old }
+    ensures { ran_of m.new result ≡ span_of n m.old }
 {
-    let c = control_of(regs, rest);
-    let m = moving_of(regs, rest);
-    let x = timers::clock::span(c, m, n);
-    let ends0 = x.ends0;
-    let ends1 = x.ends1;
-    let after = x.moving;
-    move_to(regs, rest, after);
-    Ends { ends0, ends1 }
+    let x = timers::clock::span(control_of(m), moving_of(m), n);
+    move_to(m, x.moving);
+    Ends {
+        ends0: x.ends0,
+        ends1: x.ends1,
+    }
 }
 
 // The same for few cycles, as a step costs: mostly no count ends in them, and then the file is left alone.
-pub fn span(regs: &mut File, rest: &mut Rest, n: u32) -> Ends
-    requires { Legal (machine_in regs.old rest.old) }
-    ensures { ran_of (machine_in regs.new rest.new) result ≡ span_of n (machine_in regs.old rest.old) }
+pub fn span(m: &mut Machine, n: u32) -> Ends
+    requires { Legal m.old }
+    ensures { ran_of m.new result ≡ span_of n m.old }
 {
-    let c = control_of(regs, rest);
-    let m = moving_of(regs, rest);
-    let x = timers::clock::few_cycles(c, m, n);
-    if x.few {
-        let t0 = x.t0;
-        let t1 = x.t1;
-        lent::set_counts(rest, x.divider, t0, t1);
+    if let Some(x) = timers::clock::few_cycles(control_of(m), moving_of(m), n) {
+        m.divider = x.divider;
+        m.t0 = x.t0;
+        m.t1 = x.t1;
         return Ends { ends0: 0, ends1: 0 };
     }
-    let long = long_span(regs, rest, n);
-    let ends0 = long.ends0;
-    let ends1 = long.ends1;
-    Ends { ends0, ends1 }
+    long_span(m, n)
 }

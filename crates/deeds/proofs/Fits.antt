@@ -1,6 +1,7 @@
 -- Of a legal machine, bytes for pins and memories and an instruction's bytes, what an instruction is to do holds addresses, bytes and words
 -- that fit.
 use mathlib.Core.List.{List}
+use Rattle.std.proofs.Common.{Option, Some, None}
 use Prim.Native.Nat.{ℕ, ◌<◌}
 use native.Mathlib.Omega.{arith}
 use lib.Dec.{lit<}
@@ -9,8 +10,7 @@ use lib.ListN.{get_or}
 use Rattle.word.specs.Fields.{upper, lower}
 use Rattle.word.specs.Words.{disp_of, moved_by}
 use Rattle.alu.specs.Decimal.{da_of}
-use Rattle.alu.specs.declared.Adjusted.{Adjusted}
-use Rattle.alu.specs.declared.Adjusted.TheVariants.{By, NoRow}
+use Rattle.alu.specs.declared.Outcome.{Outcome}
 use Rattle.alu.proofs.Bytes.{ByteFlags, ByteOutcome, WordFits, ByteAdjusted, add_byte, adc_byte, sub_byte, sbc_byte, cp_byte, inc_byte, dec_byte, incw_word, decw_word, and_byte, or_byte, xor_byte, com_byte, tm_byte, tcm_byte, rl_byte, rlc_byte, rr_byte, rrc_byte, sra_byte, swap_byte, da_byte, rcf_byte, scf_byte, ccf_byte}
 use Rattle.opcodes.specs.declared.Kind.{Kind}
 use Rattle.opcodes.specs.declared.Kind.TheVariants.{Binary, Test, Unary, Paired, Call, Ccf, Clr, Da, Di, Djnz, Ei, Iret, Jp, Jr, Ld, Ldc, Ldci, Lde, Ldei, Nop, Pop, Push, Rcf, Ret, Scf, Srp}
@@ -113,10 +113,10 @@ unfolding paired_of
 paired_fits Decw w = decw_word w
 paired_fits Incw w = incw_word w
 
-adjust_fits : (a : ℕ) (x : Adjusted) → a < 256 → ByteAdjusted x → FitDeed (adjust_deed a x)
+adjust_fits : (a : ℕ) (x : Option (Outcome ℕ)) → a < 256 → ByteAdjusted x → FitDeed (adjust_deed a x)
 unfolding adjust_deed
-adjust_fits a (By o) h k = (h, k)
-adjust_fits a NoRow h k = tt
+adjust_fits a (Some o) h k = (h, k)
+adjust_fits a None h k = tt
 
 moved_word : (w : ℕ) (d : ℤ) → moved_by w d < 65536
 unfolding moved_by

@@ -1,14 +1,13 @@
 -- What each page of chapter 5 has an instruction do, in the pages' order, with everything read that it needs: a deed. What is written
 -- then, and in which order, is the room `execute`'s. Throughout, m is the machine before the instruction, but with its program counter
 -- already at the next one; p are the pins, i the instruction's bytes.
-use Rattle.std.specs.Prelude.{Bool, true, not, List, ℕ, ◌+◌, ◌%◌, eqb}
+use Rattle.std.specs.Prelude.{Option, Some, None, Bool, true, not, List, ℕ, ◌+◌, ◌%◌, eqb}
 use Rattle.word.specs.Fields.{upper, word_of}
 use Rattle.word.specs.Words.{disp_of, moved_by}
 use Rattle.alu.specs.FlagByte.{rcf_of, scf_of, ccf_of}
 use Rattle.alu.specs.Decimal.{da_of}
 use Rattle.alu.specs.Conditions.{holds_of}
-use Rattle.alu.specs.declared.Adjusted.{Adjusted}
-use Rattle.alu.specs.declared.Adjusted.TheVariants.{By, NoRow}
+use Rattle.alu.specs.declared.Outcome.{Outcome}
 use Rattle.opcodes.specs.declared.Kind.{Kind}
 use Rattle.opcodes.specs.declared.Kind.TheVariants.{Binary, Test, Unary, Paired, Call, Ccf, Clr, Da, Di, Djnz, Ei, Iret, Jp, Jr, Ld, Ldc, Ldci, Lde, Ldei, Nop, Pop, Push, Rcf, Ret, Scf, Srp}
 use Rattle.opcodes.specs.declared.Binary as binary
@@ -77,9 +76,9 @@ test_deed p m t w i =
     deed.Test (test_of t (read_reg p m o.dst) o.src)
 
 -- DA: the outcome of a row is stored, also where the row adds 00; "a combination in no row changes nothing, flags included (HOUSE)"
-unfoldable pub adjust_deed : ℕ → Adjusted → Deed
-adjust_deed dst (By o) = deed.Store dst o
-adjust_deed dst NoRow = deed.Nothing
+unfoldable pub adjust_deed : ℕ → Option (Outcome ℕ) → Deed
+adjust_deed dst (Some o) = deed.Store dst o
+adjust_deed dst None = deed.Nothing
 
 unfoldable pub da_deed : Pins → Machine → One → Code → Deed
 da_deed p m w i =

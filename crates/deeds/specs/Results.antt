@@ -6,7 +6,6 @@ use Rattle.alu.specs.Logical.{and_of, or_of, xor_of, com_of, tm_of, tcm_of}
 use Rattle.alu.specs.Rotate.{rl_of, rlc_of, rr_of, rrc_of, sra_of, swap_of}
 use Rattle.alu.specs.declared.Flags.{Flags}
 use Rattle.alu.specs.declared.Outcome.{Outcome}
-use Rattle.alu.specs.declared.WordOutcome.{WordOutcome}
 use Rattle.opcodes.specs.declared.Binary.{Binary}
 use Rattle.opcodes.specs.declared.Binary.TheVariants.{Adc, Add, And, Or, Sbc, Sub, Xor}
 use Rattle.opcodes.specs.declared.Test.{Test}
@@ -17,7 +16,7 @@ use Rattle.opcodes.specs.declared.Paired.{Paired}
 use Rattle.opcodes.specs.declared.Paired.TheVariants.{Decw, Incw}
 
 -- dst <-- the result of dst and src
-unfoldable pub binary_of : Binary → ℕ → ℕ → ℕ → Outcome
+unfoldable pub binary_of : Binary → ℕ → ℕ → ℕ → Outcome ℕ
 binary_of Adc dst src read = adc_of dst src read
 binary_of Add dst src read = add_of dst src
 binary_of And dst src read = and_of dst src
@@ -33,7 +32,7 @@ test_of Tcm dst src = tcm_of dst src
 test_of Tm dst src = tm_of dst src
 
 -- dst <-- the result of dst
-unfoldable pub unary_of : Unary → ℕ → ℕ → Outcome
+unfoldable pub unary_of : Unary → ℕ → ℕ → Outcome ℕ
 unary_of Com dst read = com_of dst
 unary_of Dec dst read = dec_of dst
 unary_of Inc dst read = inc_of dst
@@ -45,6 +44,6 @@ unary_of Sra dst read = sra_of dst
 unary_of Swap dst read = swap_of dst
 
 -- a word
-unfoldable pub paired_of : Paired → ℕ → WordOutcome
+unfoldable pub paired_of : Paired → ℕ → Outcome ℕ
 paired_of Decw dst = decw_of dst
 paired_of Incw dst = incw_of dst

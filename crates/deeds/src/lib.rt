@@ -2,7 +2,7 @@
 // before anything is written, with RP as it stood" (01). The definitions in specs/ speak of these types; no code makes or takes one but `Code`.
 #![tactic(auto)]
 
-use alu::{Flags, Outcome, WordOutcome};
+use alu::{Flags, Outcome};
 
 // The opcode and the two bytes that follow it. Of these an instruction looks only at those that are its own.
 #[derive(Clone, Copy)]
@@ -34,9 +34,9 @@ pub enum Deed {
     // no flags affected
     Move(Transfer),
     // a byte to the register at an address, and then the flags
-    Store(u8, Outcome),
+    Store(u8, Outcome<u8>),
     // a word to the pair at an address, and then the flags
-    StoreWord(u8, WordOutcome),
+    StoreWord(u8, Outcome<u16>),
     // the flags alone
     Test(Flags),
     // a transfer, and then 1 is added to a register and to a pair

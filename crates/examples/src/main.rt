@@ -2,9 +2,10 @@
 // the independent program tests/reference/edges.c writes. (Image lengths are looked at by what C calls.)
 #![tactic(auto)]
 
+use clock::Ends;
 use machine::{Machine, Pins, names};
+use numbers::Refusal;
 use std::io;
-use step::Ran;
 
 // The places of control registers in a saved machine.
 const TMR: usize = names::TMR as usize;
@@ -27,61 +28,50 @@ const FLAGS: usize = names::FLAGS as usize;
 
 // The saved form of a new machine with these in R5 and FLAGS, at this program counter.
 fn fresh(r5: u8, flags: u8, pc: u8) -> [u8; numbers::SAVED_LENGTH] {
-    let m = Machine::default();
     let mut s = [0u8; numbers::SAVED_LENGTH];
-    saved::save(&mut s, m);
+    saved::save(&mut s, Machine::default());
     s[5] = r5;
     s[FLAGS] = flags;
     s[257] = pc;
     s
 }
 
-fn high() -> Pins {
-    Pins {
-        port0: 0xFF,
-        port1: 0xFF,
-        port2: 0xFF,
-        port3: 0xFF,
+const HIGH: Pins = Pins {
+    port0: 0xFF,
+    port1: 0xFF,
+    port2: 0xFF,
+    port3: 0xFF,
+};
+
+// A refusal's number, or 0 where nothing is refused.
+fn number<T: Copy>(outcome: Result<T, Refusal>) -> u32 {
+    match outcome {
+        Ok(_) => 0,
+        Err(refusal) => refusal.number(),
     }
-}
-
-fn byte(rt: &impl Print, name: &str, v: u8) -> io::Result<()> {
-    print!(rt; "{name}{v:02x}")
-}
-
-fn word(rt: &impl Print, name: &str, v: u16) -> io::Result<()> {
-    print!(rt; "{name}{v:04x}")
-}
-
-fn count(rt: &impl Print, name: &str, v: u32) -> io::Result<()> {
-    print!(rt; "{name}{v}")
-}
-
-fn end(rt: &impl Print) -> io::Result<()> {
-    println!(rt; "")
 }
 
 // A step of the machine in these bytes, told by R4, R5, FLAGS, the program counter and its cycles.
 fn step_of(rt: &impl Print, name: &str, s: &[u8], image: &[u8]) -> io::Result<()> {
-    let l = saved::load(s);
-    if l.refusal != numbers::DONE {
+    let Ok(mut m) = saved::load(s) else {
         return Ok(());
-    }
-    let m = l.machine;
+    };
     let mut mem = [0u8; 1];
-    let r = step::step(m, high(), image, &mut mem);
+    let stepped = step::step(&mut m, HIGH, image, &mut mem);
     let mut after = [0u8; numbers::SAVED_LENGTH];
-    let n = r.machine;
-    let pc = n.pc;
-    saved::save(&mut after, n);
-    print!(rt; "{name}")?;
-    byte(rt, ": R4 ", after[4])?;
-    byte(rt, " R5 ", after[5])?;
-    byte(rt, " FLAGS ", after[FLAGS])?;
-    word(rt, " PC ", pc)?;
-    count(rt, " cycles ", r.cycles)?;
-    count(rt, " refusal ", r.refusal as u32)?;
-    end(rt)
+    saved::save(&mut after, m);
+    let r4 = after[4];
+    let r5 = after[5];
+    let flags = after[FLAGS];
+    let pc = m.pc;
+    let cycles = match stepped {
+        Ok(done) => done.cycles,
+        Err(_) => 0,
+    };
+    let refusal = number(stepped);
+    println!(rt;
+        "{name}: R4 {r4:02x} R5 {r5:02x} FLAGS {flags:02x} PC {pc:04x} cycles {cycles} refusal {refusal}"
+    )
 }
 
 // An instruction on R5, from a FLAGS byte.
@@ -132,17 +122,9 @@ fn grant(rt: &impl Print) -> io::Result<()> {
 }
 
 // n cycles of the machine in these bytes.
-fn span_of(s: &[u8], n: u32) -> Ran {
-    let l = saved::load(s);
-    let m = l.machine;
-    if l.refusal != numbers::DONE {
-        return Ran {
-            ends0: 0,
-            ends1: 0,
-            machine: m,
-        };
-    }
-    step::span(m, n)
+fn span_of(s: &[u8], n: u32) -> Result<Ends, Refusal> {
+    let mut m = saved::load(s)?;
+    Ok(step::span(&mut m, n))
 }
 
 // T0's ends in n cycles, freshly loaded by PRE0 and its start byte.
@@ -153,11 +135,11 @@ fn span(rt: &impl Print, name: &str, pre0: u8, prescaler: u8, start: u8, n: u32)
     s[PRE0] = pre0;
     s[259] = prescaler;
     s[260] = start;
-    let x = span_of(&s, n);
-    print!(rt; "{name}")?;
-    count(rt, ": ", n)?;
-    count(rt, " cycles, ends ", x.ends0)?;
-    end(rt)
+    let Ok(x) = span_of(&s, n) else {
+        return Ok(());
+    };
+    let ends0 = x.ends0;
+    println!(rt; "{name}: {n} cycles, ends {ends0}")
 }
 
 fn spans(rt: &impl Print) -> io::Result<()> {
@@ -170,33 +152,22 @@ fn spans(rt: &impl Print) -> io::Result<()> {
 
 // A machine made, or refusal 3.
 fn make(rt: &impl Print, cost: u32) -> io::Result<()> {
-    let made = Machine::make(11, cost);
-    count(rt, "entry cost ", cost)?;
-    count(rt, ": refusal ", made.refusal as u32)?;
-    end(rt)
+    let refusal = number(Machine::make(11, cost));
+    println!(rt; "entry cost {cost}: refusal {refusal}")
 }
 
 // A run of a program with no bytes, which is all NOPs.
 fn run(rt: &impl Print, budget: u32) -> io::Result<()> {
     let s = fresh(0, 0, 0);
-    let l = saved::load(&s);
-    if l.refusal != numbers::DONE {
+    let Ok(mut m) = saved::load(&s) else {
         return Ok(());
-    }
-    let m = l.machine;
+    };
     let mut mem = [0u8; 1];
     let image = [0xFFu8; 1];
-    let r = step::run(m, high(), &image, &mut mem, budget);
-    count(rt, "budget ", budget)?;
-    count(rt, ": refusal ", r.refusal as u32)?;
-    count(rt, ", cycles ", r.cycles)?;
-    end(rt)
-}
-
-fn line(rt: &impl Print, divider: u32, ends0: u32, ends1: u32) -> io::Result<()> {
-    print!(rt; "P 1, N 1, fresh load, ")?;
-    print!(rt; "4294967295 cycles from divider {divider}")?;
-    println!(rt; ": ends of T0 {ends0}, of T1 {ends1}")
+    let ran = step::run(&mut m, HIGH, &image, &mut mem, budget);
+    let refusal = number(ran.ended);
+    let cycles = ran.done.cycles;
+    println!(rt; "budget {budget}: refusal {refusal}, cycles {cycles}")
 }
 
 // Both timers repeating and clocked internally, with P 1 and N 1, freshly loaded and enabled.
@@ -212,8 +183,14 @@ fn longest_span(rt: &impl Print, divider: u8) -> io::Result<()> {
     s[260] = 1;
     s[261] = 1;
     s[262] = 1;
-    let x = span_of(&s, 4294967295);
-    line(rt, divider as u32, x.ends0, x.ends1)
+    let Ok(x) = span_of(&s, 4294967295) else {
+        return Ok(());
+    };
+    let ends0 = x.ends0;
+    let ends1 = x.ends1;
+    println!(rt;
+        "P 1, N 1, fresh load, 4294967295 cycles from divider {divider}: ends of T0 {ends0}, of T1 {ends1}"
+    )
 }
 
 fn main(rt: HostRuntime) -> io::Result<()> {

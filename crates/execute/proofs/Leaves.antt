@@ -1,11 +1,9 @@
 -- What an instruction leaves: the last pins of Port 3, and, but for EI, whether IRQ is released.
-use Rattle.std.proofs.Common.{◌≡◌, ℕ, ◌+◌, ◌%◌, Bool, true, false, ◌||◌, eqb, List, refl, ap, ◌∙◌}
+use Rattle.std.proofs.Common.{Option, Some, None, ◌≡◌, ℕ, ◌+◌, ◌%◌, Bool, true, false, ◌||◌, eqb, List, refl, ap, ◌∙◌}
 use Rattle.word.specs.Fields.{high_byte, low_byte}
 use Rattle.word.specs.Words.{plus}
 use Rattle.word.proofs.Computed.{by_test, agree}
 use Rattle.opcodes.specs.Map.{entry_of, opcode_map}
-use Rattle.opcodes.specs.declared.Entry.{Entry}
-use Rattle.opcodes.specs.declared.Entry.TheVariants.{Blank, Of}
 use Rattle.opcodes.specs.declared.Kind.{Kind}
 use Rattle.opcodes.specs.declared.Kind.TheVariants.{Binary, Test, Unary, Paired, Call, Ccf, Clr, Da, Di, Djnz, Ei, Iret, Jp, Jr, Ld, Ldc, Ldci, Lde, Ldei, Nop, Pop, Push, Rcf, Ret, Scf, Srp}
 use Rattle.opcodes.specs.declared.Target.TheVariants.{Direct, Pair}
@@ -23,8 +21,7 @@ use Rattle.deeds.specs.Pages.{binary_deed, test_deed, unary_deed, paired_deed, a
 use Rattle.deeds.specs.Modes.{flags_of, one_at}
 use Rattle.deeds.specs.declared.Code.{Code}
 use Rattle.alu.specs.Decimal.{da_of}
-use Rattle.alu.specs.declared.Adjusted.{Adjusted}
-use Rattle.alu.specs.declared.Adjusted.TheVariants.{By, NoRow}
+use Rattle.alu.specs.declared.Outcome.{Outcome}
 use Rattle.deeds.proofs.Fits.{AllRead}
 use Rattle.deeds.specs.declared.Transfer.{Transfer}
 use Rattle.deeds.specs.declared.Transfer.TheVariants.{Dropped, ToRegister, ToMemory}
@@ -134,10 +131,10 @@ is_ei Ret = false
 is_ei Scf = false
 is_ei Srp = false
 
-adjusts_only : (dst : ℕ) (a : Adjusted) → enables (adjust_deed dst a) ≡ false
+adjusts_only : (dst : ℕ) (a : Option (Outcome ℕ)) → enables (adjust_deed dst a) ≡ false
 unfolding adjust_deed
-adjusts_only dst (By o) = refl
-adjusts_only dst NoRow = refl
+adjusts_only dst (Some o) = refl
+adjusts_only dst None = refl
 
 module _ (p : Pins) (image mem : List ℕ) (m : Machine) (i : Code) where
   enables_by_kind : (k : Kind) → enables (deed_of p image mem m k i) ≡ is_ei k
@@ -170,9 +167,9 @@ module _ (p : Pins) (image mem : List ℕ) (m : Machine) (i : Code) where
   enables_by_kind Scf = refl
   enables_by_kind Srp = refl
 
-abbrev is_ei_entry : Entry → Bool
-is_ei_entry Blank = false
-is_ei_entry (Of k) = is_ei k
+abbrev is_ei_entry : Option Kind → Bool
+is_ei_entry None = false
+is_ei_entry (Some k) = is_ei k
 
 pub execute_leaves : (p : Pins) (image mem : List ℕ) (m : Machine)
     → Leaves (is_ei_entry (entry_of (code_at image m.pc).op)) m (execute_of p image mem m).machine
@@ -185,9 +182,9 @@ execute_leaves p image mem m = go (entry_of (code_at image m.pc).op)
     n : Machine
     n = next_of m i
 
-    go : (e : Entry) → Leaves (is_ei_entry e) m (execute_as p image mem m e i).machine
-    go Blank = record { last3_left = refl; released_left = refl }
-    go (Of k) =
+    go : (e : Option Kind) → Leaves (is_ei_entry e) m (execute_as p image mem m e i).machine
+    go None = record { last3_left = refl; released_left = refl }
+    go (Some k) =
         let d = deed_of p image mem n k i in
         let done : Leaves (enables d) n (done_of p n d).machine = done_leaves p n d in
         let asked : enables d ≡ is_ei k = enables_by_kind p image mem n i k in

@@ -1,4 +1,5 @@
 -- A legal machine stays legal through every instruction, and what is to be stored in data memory are bytes.
+use Rattle.std.specs.Prelude.{Option, Some, None}
 use Rattle.std.proofs.Common.{ℕ, ◌+◌, ◌%◌, ◌<◌, Bool, true, false, List, arith, lit<}
 use Rattle.word.specs.Fields.{high_byte, low_byte}
 use Rattle.word.specs.Words.{plus}
@@ -8,8 +9,6 @@ use Rattle.alu.specs.declared.Flags.{Flags}
 use Rattle.alu.proofs.Bytes.{ByteFlags, laid_byte}
 use Rattle.opcodes.specs.Map.{entry_of}
 use Rattle.opcodes.specs.Instruction.{length_of}
-use Rattle.opcodes.specs.declared.Entry.{Entry}
-use Rattle.opcodes.specs.declared.Entry.TheVariants.{Blank, Of}
 use Rattle.opcodes.specs.declared.Kind.{Kind}
 use Rattle.machine.specs.State.{held, placed, with_pc}
 use Rattle.word.specs.Choose.{bits_if}
@@ -22,8 +21,7 @@ use Rattle.machine.specs.declared.Machine.{Machine}
 use Rattle.machine.specs.declared.Pins.{Pins}
 use Rattle.machine.specs.declared.Bytes.{Bytes}
 use Rattle.machine.specs.declared.Bytes.TheVariants.{One, Two}
-use Rattle.machine.specs.declared.Stores.{Stores}
-use Rattle.machine.specs.declared.Stores.TheVariants.{Nothing, At}
+use Rattle.machine.specs.Memory.{Stores}
 use Rattle.machine.proofs.Legal.{LegalPins, AllBytes, placed_legal, write_legal, pair_legal, pushed_legal, raised_legal, pc_legal, released_legal, program_byte_lem}
 use Rattle.deeds.specs.Modes.{flags_of}
 use Rattle.deeds.specs.Pages.{deed_of}
@@ -97,8 +95,8 @@ done_legal p m deed.DisableInterrupts l f = interrupts_legal false l
 
 -- what is to be stored in data memory
 abbrev pub FitStores : Stores → Type 0
-FitStores Nothing = Unit {0}
-FitStores (At a b) = (a < 65536) × AllBytes (list_of b)
+FitStores None = Unit {0}
+FitStores (Some (a, b)) = (a < 65536) × AllBytes (list_of b)
 
 pub pushed_fits : (m : Machine) (b : Bytes) → AllBytes (list_of b) → FitStores (pushed m b).stores
 unfolding pushed pushed_internal pushed_external
@@ -155,6 +153,6 @@ pub execute_sound : (p : Pins) (image mem : List ℕ) (m : Machine) → Legal m 
 unfolding execute_of execute_as
 execute_sound p image mem m l lp li lm = go (entry_of (code_at image m.pc).op)
   where
-    go : (e : Entry) → Sound (execute_as p image mem m e (code_at image m.pc))
-    go Blank = record { legal = l; fit = tt }
-    go (Of k) = perform_sound p image mem m k (code_at image m.pc) l lp li lm (code_bytes image m.pc li)
+    go : (e : Option Kind) → Sound (execute_as p image mem m e (code_at image m.pc))
+    go None = record { legal = l; fit = tt }
+    go (Some k) = perform_sound p image mem m k (code_at image m.pc) l lp li lm (code_bytes image m.pc li)

@@ -6,7 +6,6 @@ use Rattle.word.specs.Words.{plus}
 use Rattle.alu.specs.FlagByte.{laid}
 use Rattle.alu.specs.declared.Flags.{Flags}
 use Rattle.alu.specs.declared.Outcome.{Outcome}
-use Rattle.alu.specs.declared.WordOutcome.{WordOutcome}
 use Rattle.machine.specs.Names.{IMR, FLAGS}
 use Rattle.machine.specs.State.{held, placed, with_pc, with_released}
 use Rattle.machine.specs.Registers.{read_reg, write_reg}
@@ -15,7 +14,7 @@ use Rattle.machine.specs.Stack.{Stacked, pushed, raised}
 use Rattle.machine.specs.declared.Machine.{Machine}
 use Rattle.machine.specs.declared.Pins.{Pins}
 use Rattle.machine.specs.declared.Bytes.TheVariants.{One, Two}
-use Rattle.machine.specs.declared.Stores.TheVariants.{Nothing, At}
+use Rattle.std.specs.Prelude.{Some, None}
 use Rattle.deeds.specs.Modes.{flags_of}
 use Rattle.deeds.specs.declared.Transfer.{Transfer}
 use Rattle.deeds.specs.declared.Transfer.TheVariants.{Dropped, ToRegister, ToMemory}
@@ -28,15 +27,15 @@ flagged m e = placed m FLAGS (laid (flags_of m) e)
 
 -- "A destination is stored first, then the affected flags, even when it is FLAGS (HOUSE)." They are the deed's: they "go by the result, not
 -- by a reading back".
-unfoldable pub stored_at : Machine → ℕ → Outcome → Machine
+unfoldable pub stored_at : Machine → ℕ → Outcome ℕ → Machine
 stored_at m dst o = flagged (write_reg m dst o.value) o.flags
 
-unfoldable pub word_stored_at : Machine → ℕ → WordOutcome → Machine
+unfoldable pub word_stored_at : Machine → ℕ → Outcome ℕ → Machine
 word_stored_at m dst o = flagged (write_pair m dst o.value) o.flags
 
 -- a machine, and nothing to be stored in data memory
 abbrev pub no_stores : Machine → Stacked
-no_stores m = record { machine = m; stores = Nothing }
+no_stores m = record { machine = m; stores = None }
 
 -- f done to the machine; the stores stay
 abbrev pub then : (Machine → Machine) → Stacked → Stacked
@@ -46,7 +45,7 @@ then f s = record { machine = f s.machine; stores = s.stores }
 unfoldable pub transferred : Machine → Transfer → Stacked
 transferred m Dropped = no_stores m
 transferred m (ToRegister a v) = no_stores (write_reg m a v)
-transferred m (ToMemory a v) = record { machine = m; stores = At a (One v) }
+transferred m (ToMemory a v) = record { machine = m; stores = Some (a, One v) }
 
 -- "add one to what r, then the pair, reads as by then, modulo 256 and 65,536 (HOUSE)"
 unfoldable pub counted_up : Pins → Machine → ℕ → Machine

@@ -1,19 +1,16 @@
 -- One instruction, from the program counter on (01 "Instructions").
-use Rattle.std.specs.Prelude.{ℕ, List}
+use Rattle.std.specs.Prelude.{ℕ, List, Option, Some, None}
 use Rattle.word.specs.Words.{plus}
 use Rattle.opcodes.specs.Map.{entry_of}
 use Rattle.numbers.specs.Numbers.{refused_opcode}
 use Rattle.opcodes.specs.Instruction.{length_of}
 use Rattle.opcodes.specs.Cycles.{cycles_of}
-use Rattle.opcodes.specs.declared.Entry.{Entry}
-use Rattle.opcodes.specs.declared.Entry.TheVariants.{Blank, Of}
 use Rattle.opcodes.specs.declared.Kind.{Kind}
 use Rattle.machine.specs.State.{with_pc}
 use Rattle.machine.specs.Memory.{program_three, stored_in}
 use Rattle.machine.specs.declared.Machine.{Machine}
 use Rattle.machine.specs.declared.Pins.{Pins}
-use Rattle.machine.specs.declared.Stores.{Stores}
-use Rattle.machine.specs.declared.Stores.TheVariants.{Nothing}
+use Rattle.machine.specs.Memory.{Stores}
 use Rattle.deeds.specs.Pages.{deed_of, outcome_of}
 use Rattle.deeds.specs.declared.Code.{Code}
 use Rattle.deeds.specs.declared.Deed.{Deed}
@@ -38,7 +35,7 @@ code_at image pc =
 
 -- "opcode undefined": 5, "nothing changed"
 abbrev pub refused_of : Machine → Execution
-refused_of m = record { refusal = refused_opcode; cycles = 0; stores = Nothing; machine = m }
+refused_of m = record { refusal = refused_opcode; cycles = 0; stores = None; machine = m }
 
 -- the machine at the next instruction
 abbrev pub next_of : Machine → Code → Machine
@@ -54,9 +51,9 @@ unfoldable pub perform_of : Pins → List ℕ → List ℕ → Machine → Kind 
 perform_of p image mem m k i = costing i.op p (next_of m i) (deed_of p image mem (next_of m i) k i)
 
 -- a blank area of the map is refused, an instruction performed
-unfoldable pub execute_as : Pins → List ℕ → List ℕ → Machine → Entry → Code → Execution
-execute_as p image mem m Blank i = refused_of m
-execute_as p image mem m (Of k) i = perform_of p image mem m k i
+unfoldable pub execute_as : Pins → List ℕ → List ℕ → Machine → Option Kind → Code → Execution
+execute_as p image mem m None i = refused_of m
+execute_as p image mem m (Some k) i = perform_of p image mem m k i
 
 -- the instruction at the program counter
 unfoldable pub execute_of : Pins → List ℕ → List ℕ → Machine → Execution

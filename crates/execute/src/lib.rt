@@ -10,6 +10,7 @@ ghost use Rattle.execute.specs.Execute.{code_at};
 use deeds::Code;
 
 // The bytes of the instruction at pc.
+#[tactic(auto, unfolding(crate::specs::Execute::code_at))]
 pub fn fetch(image: &[u8], pc: u16) -> Code
     ensures { result ≡ code_at image.now pc }
 {

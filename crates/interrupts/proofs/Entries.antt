@@ -8,7 +8,7 @@ use Rattle.machine.specs.State.{held, placed, with_pc}
 use Rattle.machine.specs.Stack.{pushed}
 use Rattle.machine.specs.declared.Machine.{Machine}
 use Rattle.machine.specs.declared.Bytes.TheVariants.{Three}
-use Rattle.lent.specs.View.{Left, left, stacked}
+use Rattle.machine.specs.ForCode.{Left, left, stacked}
 use Rattle.deeds.specs.Modes.{flags_of}
 use Rattle.execute.specs.Doing.{interrupts_to}
 use Rattle.interrupts.specs.Entry.{cleared, vector_of, acknowledged, entered_of}

@@ -5,8 +5,6 @@ use Rattle.word.specs.Choose.{pick}
 use Rattle.word.specs.Fields.{is_set}
 use Rattle.machine.specs.declared.Machine.{Machine}
 use Rattle.interrupts.specs.Edges.{Comparison}
-use Rattle.interrupts.specs.declared.grants.Grant.{Grant}
-use Rattle.interrupts.specs.declared.grants.Grant.TheVariants.{Nothing, Request}
 
 -- a compared machine and T1's ends; and whether any of the four pins fell, in one test
 abbrev pub comparison : Machine → ℕ → Comparison
@@ -18,8 +16,3 @@ any_fell last given = not (eqb (bit_and (last % 16) (15 - given % 16)) 0)
 -- the requests that stand, among which priority is: a mask bit is set too, and IMR's bit 7
 unfoldable pub standing_of : ℕ → ℕ → ℕ
 standing_of irq imr = pick (is_set 7 imr) (bit_and irq imr) 0
-
--- the first grant, or else the second
-unfoldable pub or_else : Grant → Grant → Grant
-or_else Nothing second = second
-or_else (Request n) second = Request n

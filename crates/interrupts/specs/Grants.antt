@@ -6,8 +6,7 @@ use Rattle.word.specs.Fields.{bit_of, is_set}
 use Rattle.machine.specs.Names.{IPR, IRQ, IMR}
 use Rattle.machine.specs.State.{held}
 use Rattle.machine.specs.declared.Machine.{Machine}
-use Rattle.interrupts.specs.declared.grants.Grant.{Grant}
-use Rattle.interrupts.specs.declared.grants.Grant.TheVariants.{Nothing, Request}
+use Rattle.std.specs.Prelude.{Option, Some, None}
 
 -- IPR's groups of two requests, the higher first: "group A from 5, B from 2, C from 1". As 002 has it, IRQ5 > IRQ3 where bit 5 is 0,
 -- IRQ2 > IRQ0 where bit 2 is, IRQ1 > IRQ4 where bit 1 is.
@@ -53,14 +52,14 @@ unfoldable pub priorities : ℕ → List ℕ
 priorities ipr = ordered (group_order ipr) (group_a ipr) (group_b ipr) (group_c ipr)
 
 -- the first of these whose bit is set in `standing`
-unfoldable pub first_standing : List ℕ → ℕ → Grant
-first_standing [] standing = Nothing
-first_standing (n ∷ ns) standing = pick (is_set n standing) (Request n) (first_standing ns standing)
+unfoldable pub first_standing : List ℕ → ℕ → Option ℕ
+first_standing [] standing = None
+first_standing (n ∷ ns) standing = pick (is_set n standing) (Some n) (first_standing ns standing)
 
 -- "A grant needs IMR bit 7, the request and its mask bit." Standing are requests whose mask bit is set too, and priority is among them: "the
 -- highest priority level that is enabled" (004, 10.3).
-unfoldable pub granted : ℕ → ℕ → ℕ → Grant
-granted irq imr ipr = pick (is_set 7 imr) (first_standing (priorities ipr) (bit_and irq imr)) Nothing
+unfoldable pub granted : ℕ → ℕ → ℕ → Option ℕ
+granted irq imr ipr = pick (is_set 7 imr) (first_standing (priorities ipr) (bit_and irq imr)) None
 
-unfoldable pub grant_of : Machine → Grant
+unfoldable pub grant_of : Machine → Option ℕ
 grant_of m = granted (held m IRQ) (held m IMR) (held m IPR)

@@ -3,16 +3,15 @@ ghost use Rattle.std.specs.Prelude.{◌≡◌, ◌<◌};
 ghost use Rattle.machine.specs.Names.{IRQ};
 ghost use Rattle.machine.specs.State.{held};
 ghost use Rattle.machine.specs.Legal.{Legal};
-ghost use Rattle.lent.specs.View.{machine_in};
 ghost use Rattle.interrupts.specs.Edges.{fell, latched_by, started_by, moved_by_edges, compared_of};
 ghost use Rattle.interrupts.specs.ForCode.{comparison, any_fell};
 
-use lent::Rest;
-use machine::{File, names};
+use machine::{Machine, names};
 use serial::Port;
-use timers::{Lines, RequestRegister, Spanned};
+use timers::{RequestRegister, Spanned};
 
 // Whether any of P30 to P33 fell.
+#[tactic(auto, unfolding(crate::specs::ForCode::any_fell))]
 fn any_fell(last: u8, given: u8) -> bool
     ensures { result ≡ any_fell last given }
 {
@@ -20,16 +19,16 @@ fn any_fell(last: u8, given: u8) -> bool
 }
 
 // Whether pin n fell.
+#[tactic(auto, unfolding(crate::specs::Edges::fell))]
 fn fell(n: u8, last: u8, given: u8) -> bool
     requires { n < 8 }
     ensures { result ≡ fell n last given }
 {
-    let was = word::is_set(n, last);
-    let is = word::is_set(n, given);
-    was & !is
+    word::is_set(n, last) & !word::is_set(n, given)
 }
 
 // The request register after the edges, the serial port being on or off.
+#[tactic(auto, unfolding(crate::specs::Edges::latched_by))]
 fn latched_by(on: bool, last: u8, given: u8, r: RequestRegister) -> RequestRegister
     ensures { result ≡ latched_by on last given r }
 {
@@ -37,53 +36,37 @@ fn latched_by(on: bool, last: u8, given: u8, r: RequestRegister) -> RequestRegis
     let p33 = fell(3, last, given);
     let p31 = fell(1, last, given);
     let p30 = fell(0, last, given);
-    let r0 = timers::requests::latched_if(p32, 0, r);
-    let r1 = timers::requests::latched_if(p33, 1, r0);
-    let r2 = timers::requests::latched_if(p31, 2, r1);
-    timers::requests::latched_if(p30 & !on, 3, r2)
+    let r0 = r.latched_if(p32, 0);
+    let r1 = r0.latched_if(p33, 1);
+    let r2 = r1.latched_if(p31, 2);
+    r2.latched_if(p30 & !on, 3)
 }
 
 // The serial port after the edges.
+#[tactic(auto, unfolding(crate::specs::Edges::started_by))]
 fn started_by(on: bool, last: u8, given: u8, p: Port) -> Port
     ensures { result ≡ started_by on last given p }
 {
-    let p30 = fell(0, last, given);
-    if p30 & on {
-        let old = p.receiver;
-        let transmitter = p.transmitter;
-        let receiver = serial::receiving::start(old);
-        return Port {
-            receiver,
-            transmitter,
-        };
+    if fell(0, last, given) & on {
+        let receiver = p.receiver.start();
+        return Port { receiver, ..p };
     }
     p
 }
 
 // What the edges move.
-fn moved(regs: &File, rest: &Rest, given: u8) -> Spanned
-    requires { Legal (machine_in regs.now rest.now) }
-    ensures { result ≡ moved_by_edges (machine_in regs.now rest.now) given }
+#[tactic(auto, unfolding(crate::specs::Edges::moved_by_edges))]
+fn moved(m: &Machine, given: u8) -> Spanned
+    requires { Legal m.now }
+    ensures { result ≡ moved_by_edges m.now given }
 {
-    let last = lent::last3(rest);
-    let c = clock::control_of(regs, rest);
-    let m = clock::moving_of(regs, rest);
-    let mode = clock::port_mode(regs, rest);
-    let old = m.lines;
-    let line = old.port;
-    let register = old.requests;
-    let requests = latched_by(mode.on, last, given, register);
-    let port = started_by(mode.on, last, given, line);
-    let p31 = fell(1, last, given);
-    let lines = Lines {
-        requests,
-        tout: old.tout,
-        port,
-    };
-    let mut latched = m;
-    latched.lines = lines;
-    if p31 {
-        timers::clock::edge(c, latched)
+    let last = m.last3;
+    let on = clock::port_mode(m).on;
+    let mut latched = clock::moving_of(m);
+    latched.lines.requests = latched_by(on, last, given, latched.lines.requests);
+    latched.lines.port = started_by(on, last, given, latched.lines.port);
+    if fell(1, last, given) {
+        timers::clock::edge(clock::control_of(m), latched)
     } else {
         Spanned {
             moving: latched,
@@ -94,37 +77,30 @@ fn moved(regs: &File, rest: &Rest, given: u8) -> Spanned
 }
 
 // IRQ as it stands when the pins have been compared.
-pub fn requests(regs: &File, rest: &Rest, given: u8) -> u8
-    requires { Legal (machine_in regs.now rest.now) }
-    ensures { result ≡ held (compared_of (machine_in regs.now rest.now) given).machine IRQ }
+#[tactic(auto, using(crate::proofs::Steady::steady, crate::proofs::Steady::requests_seen), unfolding(machine::specs::State::with_last3))]
+pub fn requests(m: &Machine, given: u8) -> u8
+    requires { Legal m.now }
+    ensures { result ≡ held (compared_of m.now given).machine IRQ }
 {
-    let last = lent::last3(rest);
-    let any = any_fell(last, given);
-    if !any {
-        return machine::file::held(regs, names::IRQ);
+    if any_fell(m.last3, given) {
+        moved(m, given).moving.lines.requests.irq
+    } else {
+        m.held(names::IRQ)
     }
-    let x = moved(regs, rest, given);
-    let after = x.moving;
-    let lines = after.lines;
-    let requests = lines.requests;
-    requests.irq
 }
 
 // The pins compared, and T1's ends by that.
-pub fn compare(regs: &mut File, rest: &mut Rest, given: u8) -> u32
-    requires { Legal (machine_in regs.old rest.old) }
-    ensures { comparison (machine_in regs.new rest.new) result ≡ compared_of (machine_in regs.old rest.old) given }
+#[tactic(auto, using(crate::proofs::Steady::steady), unfolding(machine::specs::State::with_last3, crate::specs::Edges::compared_of))]
+pub fn compare(m: &mut Machine, given: u8) -> u32
+    requires { Legal m.old }
+    ensures { comparison m.new result ≡ compared_of m.old given }
 {
-    let last = lent::last3(rest);
-    let any = any_fell(last, given);
-    if !any {
-        lent::set_last3(regs, rest, given);
+    if !any_fell(m.last3, given) {
+        m.last3 = given;
         return 0;
     }
-    let x = moved(regs, rest, given);
-    let after = x.moving;
-    let ends1 = x.ends1;
-    clock::move_to(regs, rest, after);
-    lent::set_last3(regs, rest, given);
-    ends1
+    let x = moved(m, given);
+    clock::move_to(m, x.moving);
+    m.last3 = given;
+    x.ends1
 }

@@ -1,12 +1,13 @@
 // The grant of a request.
 ghost use Rattle.std.specs.Prelude.{◌≡◌, ◌<◌};
-ghost use Rattle.lent.specs.View.{core_in, machine_in, left, stacked};
+ghost use Rattle.machine.specs.ForCode.{left, stacked};
 ghost use Rattle.interrupts.specs.Entry.{cleared, vector_of, entered_of};
 
-use lent::Rest;
-use machine::{Bytes, File, names};
+use execute::doing;
+use machine::{Bytes, Machine, names};
 
-// IRQ with request n cleared.
+// IRQ with request n cleared. (A request is its bit's number in IRQ and its vector's place: an enum would be turned into it each time.)
+#[tactic(auto, using(word::proofs::Computed::agree), unfolding(crate::specs::Entry::cleared))]
 fn cleared(n: u8, irq: u8) -> u8
     requires { n < 6 }
     ensures { result ≡ cleared n irq }
@@ -15,6 +16,7 @@ fn cleared(n: u8, irq: u8) -> u8
 }
 
 // The address that request n's vector holds.
+#[tactic(auto, unfolding(crate::specs::Entry::vector_of))]
 fn vector(image: &[u8], n: u8) -> u16
     requires { n < 6 }
     ensures { result ≡ vector_of image.now n }
@@ -26,20 +28,15 @@ fn vector(image: &[u8], n: u8) -> u16
 }
 
 // Request n entered: PC and FLAGS are pushed, then the request and IMR's bit 7 are cleared, also in bytes just pushed there.
-pub fn enter(regs: &mut File, rest: &mut Rest, mem: &mut [u8], image: &[u8], n: u8)
+pub fn enter(m: &mut Machine, mem: &mut [u8], image: &[u8], n: u8)
     requires { n < 6 }
-    ensures { left (machine_in regs.new rest.new) mem.new ≡ stacked (core_in rest.old).kind mem.old (entered_of image.now (machine_in regs.old rest.old) n) }
+    ensures { left m.new mem.new ≡ stacked m.old.kind mem.old (entered_of image.now m.old n) }
 {
-    let pc = lent::pc(rest);
-    let flags = execute::doing::flags(regs, rest);
-    let hi = word::high_byte(pc);
-    let lo = word::low_byte(pc);
-    let to = vector(image, n);
-    let b = Bytes::Three(flags, hi, lo);
-    registers::stack::push(regs, rest, mem, b);
-    let irq = machine::file::held(regs, names::IRQ);
-    let fewer = cleared(n, irq);
-    machine::file::place(regs, names::IRQ, fewer);
-    execute::doing::interrupts(regs, rest, false);
-    lent::set_pc(regs, rest, to);
+    let flags = doing::flags(m);
+    let pushed = Bytes::Three(flags, word::high_byte(m.pc), word::low_byte(m.pc));
+    registers::stack::push(m, mem, pushed);
+    let irq = m.held(names::IRQ);
+    m.place(names::IRQ, cleared(n, irq));
+    doing::interrupts(m, false);
+    m.pc = vector(image, n);
 }

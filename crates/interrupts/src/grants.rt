@@ -1,126 +1,81 @@
 // Which request is granted.
 ghost use Rattle.std.specs.Prelude.{◌≡◌, [], ◌∷◌, ◌<◌};
-ghost use Rattle.interrupts.specs.Grants.{group_order, group_a, group_b, group_c, priorities, first_standing, granted};
-ghost use Rattle.interrupts.specs.ForCode.{standing_of, or_else};
+ghost use Rattle.word.specs.Choose.{pick};
+ghost use Rattle.word.specs.Fields.{is_set};
+ghost use Rattle.interrupts.specs.Grants.{group_order, priorities, first_standing, granted};
+ghost use Rattle.interrupts.specs.ForCode.{standing_of};
 
-#[derive(Clone, Copy)]
-pub enum Grant {
-    Nothing,
-    Request(u8),
-}
-
-// The first, or else the second.
-fn or_else(first: Grant, second: Grant) -> Grant
-    ensures { result ≡ or_else first second }
+// The higher of a group's two requests that stands, the second being the higher where the group's bit of IPR is set.
+fn of_group(standing: u8, ipr: u8, order: u8, first: u8, second: u8) -> Option<u8>
+    requires order_bound { order < 8 }
+    requires first_bound { first < 8 }
+    requires second_bound { second < 8 }
+    ensures { result ≡ first_standing (pick (is_set order ipr) (second ∷ first ∷ []) (first ∷ second ∷ [])) standing }
 {
-    match first {
-        Grant::Nothing => second,
-        Grant::Request(n) => Grant::Request(n),
+    if word::is_set(order, ipr) {
+        of_two(standing, second, first)
+    } else {
+        of_two(standing, first, second)
     }
 }
 
-// The first of three groups that has a request.
-fn of_three(x: Grant, y: Grant, z: Grant) -> Grant
-    ensures { result ≡ or_else (or_else x y) z }
-{
-    let higher = or_else(x, y);
-    or_else(higher, z)
-}
-
 // The higher of two requests that stands.
-fn of_two(standing: u8, higher: u8, lower: u8) -> Grant
+#[tactic(auto, unfolding(crate::specs::Grants::first_standing))]
+fn of_two(standing: u8, higher: u8, lower: u8) -> Option<u8>
     requires higher_bound { higher < 8 }
     requires lower_bound { lower < 8 }
     ensures { result ≡ first_standing (higher ∷ lower ∷ []) standing }
 {
-    let first = word::is_set(higher, standing);
-    let second = word::is_set(lower, standing);
-    if first {
-        return Grant::Request(higher);
-    }
-    if second {
-        Grant::Request(lower)
+    if word::is_set(higher, standing) {
+        Some(higher)
+    } else if word::is_set(lower, standing) {
+        Some(lower)
     } else {
-        Grant::Nothing
-    }
-}
-
-fn of_group_a(standing: u8, ipr: u8) -> Grant
-    ensures { result ≡ first_standing (group_a ipr) standing }
-{
-    let swapped = word::is_set(5, ipr);
-    if swapped {
-        of_two(standing, 3, 5)
-    } else {
-        of_two(standing, 5, 3)
-    }
-}
-
-fn of_group_b(standing: u8, ipr: u8) -> Grant
-    ensures { result ≡ first_standing (group_b ipr) standing }
-{
-    let swapped = word::is_set(2, ipr);
-    if swapped {
-        of_two(standing, 0, 2)
-    } else {
-        of_two(standing, 2, 0)
-    }
-}
-
-fn of_group_c(standing: u8, ipr: u8) -> Grant
-    ensures { result ≡ first_standing (group_c ipr) standing }
-{
-    let swapped = word::is_set(1, ipr);
-    if swapped {
-        of_two(standing, 4, 1)
-    } else {
-        of_two(standing, 1, 4)
+        None
     }
 }
 
 fn group_order(ipr: u8) -> u8
     ensures { (result ≡ group_order ipr) × (result < 8) }
 {
-    let bit4 = word::bit(4, ipr);
-    let bit3 = word::bit(3, ipr);
-    let bit0 = word::bit(0, ipr);
-    bit4 * 4 + bit3 * 2 + bit0
+    word::bit(4, ipr) * 4 + word::bit(3, ipr) * 2 + word::bit(0, ipr)
 }
 
 // The highest request by IPR of those that stand.
-pub fn highest(standing: u8, ipr: u8) -> Grant
+#[tactic(auto, using(crate::proofs::Orders::first_of_three, crate::proofs::Orders::unused), unfolding(crate::specs::Grants::priorities, crate::specs::Grants::ordered, crate::specs::Grants::group_a, crate::specs::Grants::group_b, crate::specs::Grants::group_c, crate::specs::Grants::first_standing))]
+pub fn highest(standing: u8, ipr: u8) -> Option<u8>
     ensures { result ≡ first_standing (priorities ipr) standing }
 {
-    let a = of_group_a(standing, ipr);
-    let b = of_group_b(standing, ipr);
-    let c = of_group_c(standing, ipr);
-    let order = group_order(ipr);
-    match order {
-        1 => of_three(c, a, b),
-        2 => of_three(a, b, c),
-        3 => of_three(a, c, b),
-        4 => of_three(b, c, a),
-        5 => of_three(c, b, a),
-        6 => of_three(b, a, c),
-        _ => Grant::Nothing,
+    let a = of_group(standing, ipr, 5, 5, 3);
+    let b = of_group(standing, ipr, 2, 2, 0);
+    let c = of_group(standing, ipr, 1, 1, 4);
+    match group_order(ipr) {
+        1 => c.or(a).or(b),
+        2 => a.or(b).or(c),
+        3 => a.or(c).or(b),
+        4 => b.or(c).or(a),
+        5 => c.or(b).or(a),
+        6 => b.or(a).or(c),
+        _ => None,
     }
 }
 
 // The requests that stand: the mask bit is set too, and IMR's bit 7.
+#[tactic(auto, unfolding(crate::specs::ForCode::standing_of))]
 pub fn standing(irq: u8, imr: u8) -> u8
     ensures { result ≡ standing_of irq imr }
 {
-    let enabled = word::is_set(7, imr);
-    if enabled { irq & imr } else { 0 }
+    if word::is_set(7, imr) { irq & imr } else { 0 }
 }
 
 // What is granted, asked at each step. Mostly nothing stands, which is seen without asking IPR.
-pub fn granted(irq: u8, imr: u8, ipr: u8) -> Grant
+#[tactic(auto, using(crate::proofs::Orders::granted_standing))]
+pub fn granted(irq: u8, imr: u8, ipr: u8) -> Option<u8>
     ensures { result ≡ granted irq imr ipr }
 {
     let standing = standing(irq, imr);
     if standing == 0 {
-        return Grant::Nothing;
+        return None;
     }
     highest(standing, ipr)
 }

@@ -40,7 +40,9 @@ use Rattle.machine.specs.Memory.{program_byte, data_start, data_byte, list_of}
 use Rattle.machine.specs.declared.Machine.{Machine}
 use Rattle.machine.specs.declared.Bytes as bytes
 use Rattle.machine.specs.declared.Pins.{Pins}
-use Rattle.machine.specs.declared.start.Made.{Made}
+use Rattle.std.specs.Prelude.{Result, Ok, Err, IfOk}
+use Rattle.numbers.specs.declared.Refusal.{Refusal}
+use Rattle.numbers.specs.declared.Refusal.TheVariants as refusal
 use Rattle.machine.specs.declared.ports.Directions.{Directions}
 use Rattle.machine.proofs.Places.{place_long, held_same, held_other, each_placed}
 use Rattle.machine.proofs.Lens.{put_seen, span_is, every}
@@ -479,16 +481,16 @@ pub default_legal : Legal default_of
 unfolding default_of
 default_legal = new_legal 11 20 tt tt
 
-pub made_legal : (kind cost : ℕ) → Legal (made_of kind cost).machine
+-- what can be made is legal
+pub made_legal : (kind cost : ℕ) → IfOk (made_of kind cost) (λ m. Legal m)
 unfolding made_of
 made_legal kind cost = go (is_kind kind && is_cost cost) refl
   where
-    go : (b : Bool) → is_kind kind && is_cost cost ≡ b
-        → Legal (pick {A = Made} b (record { refusal = 0; machine = new_of kind cost }) (record { refusal = 3; machine = default_of })).machine
+    go : (b : Bool) → is_kind kind && is_cost cost ≡ b → IfOk (pick {A = Result Machine Refusal} b (Ok (new_of kind cost)) (Err refusal.Making)) (λ m. Legal m)
     go true e =
         let t : T (is_kind kind && is_cost cost) = rw e tt in
         new_legal kind cost (and_left (is_kind kind) (is_cost cost) t) (and_right (is_kind kind) (is_cost cost) t)
-    go false e = default_legal
+    go false e = tt
 
 -- ---- addresses, words and bytes read
 pub working_byte : (m : Machine) (x : ℕ) → Legal m → x < 16 → working_at m x < 256

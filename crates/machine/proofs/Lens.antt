@@ -13,6 +13,8 @@ use Rattle.timers.specs.Clock.{cycle, cycles, begun, LegalSetting, LegalMoving}
 use Rattle.timers.specs.declared.Moving.{Moving}
 use Rattle.timers.specs.declared.Setting.{Setting}
 use Rattle.timers.specs.declared.Spanned.{Spanned}
+use Rattle.std.specs.Prelude.{IfSome}
+use Rattle.std.proofs.lemmas.Option.{IfSome_then}
 use Rattle.timers.proofs.Cycles.{counting, few_is}
 use Rattle.timers.proofs.Theorems.{cycles_within}
 use Rattle.machine.specs.State.{placed_in, held, placed, with_released, with_port}
@@ -146,15 +148,12 @@ module _ (m : Machine) (long : length m.regs ≡ 256) (tmr_byte : held m 0xF1 < 
   span_is (suc n) = ap cycle_of (span_is n) ∙ one_more (iter n (cycle set) (begun (moving_of m)))
 
   -- where they are so few that no count ends, the counts alone are put
-  pub span_few : (n : ℕ) → LegalSetting set → LegalMoving (moving_of m) → (few_cycles set n (moving_of m)).few ≡ true
-      → span_of n m ≡ record { machine = counts_at m (counting set (moving_of m) (few_cycles set n (moving_of m))); ends0 = 0; ends1 = 0 }
+  pub span_few : (n : ℕ) → LegalSetting set → LegalMoving (moving_of m)
+      → IfSome (few_cycles set n (moving_of m)) (λ x. span_of n m ≡ record { machine = counts_at m (counting (moving_of m) x); ends0 = 0; ends1 = 0 })
   unfolding shown moving_of
-  span_few n ls lm f =
-      rw (
-        span_is n,
-        few_is set n (moving_of m) ls lm f,
-        counts_alone m (counting set (moving_of m) (few_cycles set n (moving_of m))) tmr_byte refl refl refl refl,
-      )
+  span_few n ls lm =
+      IfSome_then (few_cycles set n (moving_of m)) (few_is set n (moving_of m) ls lm)
+      (λ x few. rw (span_is n, few, counts_alone m (counting (moving_of m) x) tmr_byte refl refl refl refl))
 
   -- each cycle ends a count at most once
   pub span_within : (n : ℕ) → ((span_of n m).ends0 ≤ n) × ((span_of n m).ends1 ≤ n)

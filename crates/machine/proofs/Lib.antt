@@ -10,3 +10,4 @@ pub mod Legal
 pub mod SerialSpan
 pub mod HeldSpan
 pub mod Theorems
+pub mod ResetTable

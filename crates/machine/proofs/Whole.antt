@@ -19,12 +19,8 @@ use Rattle.machine.specs.Addresses.{even_of, write_pair}
 use Rattle.machine.specs.Memory.{list_of}
 use Rattle.machine.specs.Stack.{Stacked, is_internal, spl, sp_of, sp_set, written_from, pushed_internal, pushed_external, pushed, raised}
 use Rattle.machine.specs.declared.Machine.{Machine}
-use Rattle.machine.specs.declared.Core.{Core}
+use Rattle.machine.specs.State.{Core}
 use Rattle.machine.specs.declared.Bytes.{Bytes}
-
-pub placed_is : {file : List ℕ} {k : Core} {m : Machine} (a v : ℕ) → whole file k ≡ m → whole (placed_in file a v) k ≡ placed m a v
-unfolding placed
-placed_is a v e = rw (← e)
 
 -- n has what m has where no store moves it
 pub record Keeps (m n : Machine) : Type 0 where

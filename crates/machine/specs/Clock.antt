@@ -12,7 +12,7 @@ use Rattle.machine.specs.Names.{TMR, T1, PRE1, T0, PRE0, P3M, IRQ}
 use Rattle.word.specs.Choose.{bits_if}
 use Rattle.machine.specs.State.{whole, core_of, held, placed, with_released, with_port}
 use Rattle.machine.specs.declared.Machine.{Machine}
-use Rattle.machine.specs.declared.Core.{Core}
+use Rattle.machine.specs.State.{Core}
 
 -- what they read, with this byte for TMR: F2 to F5 hold start values and prescaler fields; "P31 is as in the last pins", and so is P30
 unfoldable pub control_with : Machine → ℕ → Control

@@ -1,13 +1,11 @@
 -- Program and data memory (01 "Memory and registers"; 004 3.4 and 3.5). "Data and program memory are separate, and port modes don't
 -- hinder either (HOUSE)": nothing here looks at a register. "LDC and LDCI stores are dropped (HOUSE)": nothing stores to the image.
-use Rattle.std.specs.Prelude.{List, [], ◌∷◌, ℕ, eqb, ltb, get_or, set}
+use Rattle.std.specs.Prelude.{List, [], ◌∷◌, ℕ, Option, Some, None, eqb, ltb, get_or, set}
 use Rattle.word.specs.Choose.{pick}
 use Rattle.word.specs.Words.{plus}
 use Rattle.machine.specs.declared.Bytes.{Bytes}
 use Rattle.machine.specs.declared.Bytes.TheVariants.{One, Two, Three}
 use Rattle.machine.specs.declared.memory.Triple.{Triple}
-use Rattle.machine.specs.declared.Stores.{Stores}
-use Rattle.machine.specs.declared.Stores.TheVariants.{Nothing, At}
 
 -- "Program bytes past the image read FF (HOUSE)." (`get_or` is the element, or its last argument past the end.)
 unfoldable pub program_byte : List ℕ → ℕ → ℕ
@@ -39,7 +37,11 @@ abbrev pub stored_from : ℕ → List ℕ → ℕ → List ℕ → List ℕ
 stored_from kind mem a [] = mem
 stored_from kind mem a (v ∷ vs) = stored_from kind (data_stored kind mem a v) (plus a 1) vs
 
+-- what is to be stored in data memory: nothing, or bytes upward from an address
+abbrev pub Stores : Type 0
+Stores = Option (ℕ × Bytes)
+
 -- data memory after what is to be stored there
 unfoldable pub stored_in : ℕ → List ℕ → Stores → List ℕ
-stored_in kind mem Nothing = mem
-stored_in kind mem (At a b) = stored_from kind mem a (list_of b)
+stored_in kind mem None = mem
+stored_in kind mem (Some (a, b)) = stored_from kind mem a (list_of b)

@@ -10,8 +10,8 @@ use Rattle.machine.specs.Memory.{data_byte, list_of}
 use Rattle.machine.specs.declared.Machine.{Machine}
 use Rattle.machine.specs.declared.Pins.{Pins}
 use Rattle.machine.specs.declared.Bytes.{Bytes}
-use Rattle.machine.specs.declared.Stores.{Stores}
-use Rattle.machine.specs.declared.Stores.TheVariants.{Nothing, At}
+use Rattle.machine.specs.Memory.{Stores}
+use Rattle.std.specs.Prelude.{Some, None}
 
 -- "P01M bit 2 set means internal"
 abbrev pub is_internal : Machine → Bool
@@ -42,12 +42,12 @@ written_from m a (v ∷ vs) = written_from (write_reg m a v) ((a + 1) % 256) vs
 unfoldable pub pushed_internal : Machine → Bytes → Stacked
 pushed_internal m b =
     let sp = (spl m + (256 - length (list_of b))) % 256 in
-    record { machine = written_from (placed m SPL sp) sp (list_of b); stores = Nothing }
+    record { machine = written_from (placed m SPL sp) sp (list_of b); stores = None }
 
 unfoldable pub pushed_external : Machine → Bytes → Stacked
 pushed_external m b =
     let sp = plus (sp_of m) (65536 - length (list_of b)) in
-    record { machine = sp_set m sp; stores = At sp b }
+    record { machine = sp_set m sp; stores = Some (sp, b) }
 
 -- "Stack, its kind taken before anything is written"
 unfoldable pub pushed : Machine → Bytes → Stacked

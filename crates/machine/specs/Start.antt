@@ -1,6 +1,8 @@
 -- Reset, and the new machine (01 "One step", "Numbers the encoder sees"; 02, C-13; 004, table 8-1 and 10.8).
-use Rattle.std.specs.Prelude.{Bool, true, false, ◌&&◌, ◌||◌, List, [], ◌∷◌, ℕ, eqb, leb, replicate}
-use Rattle.numbers.specs.Numbers.{refused_making, file_length}
+use Rattle.std.specs.Prelude.{Bool, true, false, ◌&&◌, ◌||◌, List, [], ◌∷◌, ℕ, eqb, leb, replicate, Result, Ok, Err}
+use Rattle.numbers.specs.Numbers.{file_length}
+use Rattle.numbers.specs.declared.Refusal.{Refusal}
+use Rattle.numbers.specs.declared.Refusal.TheVariants as refusal
 use Rattle.word.specs.Choose.{pick}
 use Rattle.serial.specs.Transmitter.{idle}
 use Rattle.serial.specs.Receiver.{waiting}
@@ -9,7 +11,6 @@ use Rattle.timers.specs.declared.Timer.{Timer}
 use Rattle.machine.specs.Names.{SIO, TMR, T1, PRE1, T0, PRE0, P2M, P3M, P01M, IPR, IRQ, IMR, FLAGS, RP, SPH, SPL}
 use Rattle.machine.specs.State.{placed_in}
 use Rattle.machine.specs.declared.Machine.{Machine}
-use Rattle.machine.specs.declared.start.Made.{Made}
 
 -- a place and what it then holds
 pub record Place : Type 0 where
@@ -77,10 +78,6 @@ is_kind kind = eqb kind 1 || eqb kind 11
 abbrev pub is_cost : ℕ → Bool
 is_cost cost = leb 6 cost && leb cost 63
 
--- refusal 3: "type not 1 or 11, or entry cost not 6 to 63, at making". A refused answer holds, as it has to hold one, the machine made
--- where nothing is named.
-unfoldable pub made_of : ℕ → ℕ → Made
-made_of kind cost =
-    pick (is_kind kind && is_cost cost)
-    (record { refusal = 0; machine = new_of kind cost })
-    (record { refusal = refused_making; machine = default_of })
+-- refusal 3: "type not 1 or 11, or entry cost not 6 to 63, at making"
+unfoldable pub made_of : ℕ → ℕ → Result Machine Refusal
+made_of kind cost = pick (is_kind kind && is_cost cost) (Ok (new_of kind cost)) (Err refusal.Making)

@@ -5,8 +5,21 @@
 use Rattle.std.specs.Prelude.{Bool, List, ℕ, get_or, set}
 use Rattle.serial.specs.declared.Transmitter.{Transmitter}
 use Rattle.serial.specs.declared.Port.{Port}
+use Rattle.timers.specs.declared.Timer.{Timer}
 use Rattle.machine.specs.declared.Machine.{Machine}
-use Rattle.machine.specs.declared.Core.{Core}
+
+-- a machine but for its register file
+pub record Core : Type 0 where
+  pub pc : ℕ
+  pub divider : ℕ
+  pub t0 : Timer
+  pub t1 : Timer
+  pub last3 : ℕ
+  pub tout : Bool
+  pub kind : ℕ
+  pub cost : ℕ
+  pub released : Bool
+  pub port : Port
 
 -- "The register file is kept as 256 places in address order. Places 0 to 3 hold output latches, F2 and F4 hold start values". What the
 -- place of register a holds, and the file with v in it: of a machine, only these two look up a place by its register's address. (`legal_of` of

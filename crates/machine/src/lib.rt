@@ -1,5 +1,5 @@
 // The machine: everything that a step reads and writes (01 "Memory and registers"; 004 chapters 3, 6 and 9). A `Machine` goes by value
-// at the edges; below them it is lent, in the room `lent`.
+// at the edges; below them it is lent.
 #![tactic(auto)]
 
 pub mod file;
@@ -16,25 +16,11 @@ pub type File = [u8; numbers::FILE_LENGTH];
 
 // 01's machine: the register file in address order, the program counter, the divider, both timers' counts in progress, the last Port 3
 // pins, the T_OUT level, the type (1 or 11) and the interrupt entry cost; C-13's mark, whether an EI has been executed since the last
-// reset; and C-11's serial port.
+// reset; and C-11's serial port. (The type is a number, and what is legal no part of this type: `reset_of`, `saved_of`, `read_reg` and
+// `write_reg` speak of any machine, which may not change.)
 #[derive(Clone, Copy)]
 pub struct Machine {
     pub regs: File,
-    pub pc: u16,
-    pub divider: u32,
-    pub t0: Timer,
-    pub t1: Timer,
-    pub last3: u8,
-    pub tout: bool,
-    pub kind: u8,
-    pub cost: u8,
-    pub released: bool,
-    pub port: Port,
-}
-
-// A machine but for its register file: what the definitions put beside a file, and what the numbers are that `lent` lends.
-#[derive(Clone, Copy)]
-pub struct Core {
     pub pc: u16,
     pub divider: u32,
     pub t0: Timer,
@@ -56,17 +42,10 @@ pub struct Pins {
     pub port3: u8,
 }
 
-// One to three bytes, in address order.
+// One to three bytes, in address order. (No slice: what takes them has three arms, where a slice wants a loop and an invariant.)
 #[derive(Clone, Copy)]
 pub enum Bytes {
     One(u8),
     Two(u8, u8),
     Three(u8, u8, u8),
-}
-
-// What is to be stored in data memory: nothing, or bytes upward from an address.
-#[derive(Clone, Copy)]
-pub enum Stores {
-    Nothing,
-    At(u16, Bytes),
 }

@@ -14,11 +14,11 @@ pub struct Triple {
 }
 
 // A byte of the program. Every vector and LDC goes by it, and every fetch by it or by `program_three` below, which reads the same.
+#[tactic(auto, unfolding(crate::specs::Memory::program_byte))]
 pub fn program(image: &[u8], a: u16) -> u8
     ensures { result ≡ program_byte image.now a }
 {
-    let i = a as usize;
-    if i < image.len() { image[i] } else { 0xFF }
+    image.get(a as usize).copied().unwrap_or(0xFF)
 }
 
 // How much of the image addresses reach.
@@ -26,11 +26,7 @@ fn reach(image: &[u8]) -> usize
     ensures value { result ≡ reach_of image.now }
     ensures inside { (result ≤ length image.now) × (result ≤ 65536) }
 {
-    if image.len() < 65536 {
-        image.len()
-    } else {
-        65536
-    }
+    image.len().min(65536)
 }
 
 // Three bytes of the program from a on, each as `program` has it. Mostly all three are within the image and no address passes 65,535:
@@ -65,32 +61,31 @@ fn data_start(kind: u8) -> u16
 }
 
 // A byte of data memory.
+#[tactic(auto, unfolding(crate::specs::Memory::data_byte))]
 pub fn load(kind: u8, mem: &[u8], a: u16) -> u8
     ensures { result ≡ data_byte kind mem.now a }
 {
-    let start = data_start(kind);
-    let i = a as usize;
-    if a < start {
+    if a < data_start(kind) {
         return 0xFF;
     }
-    if i < mem.len() { mem[i] } else { 0xFF }
+    mem.get(a as usize).copied().unwrap_or(0xFF)
 }
 
 // A byte stored in data memory.
 pub fn store_byte(kind: u8, mem: &mut [u8], a: u16, v: u8)
     ensures { mem.new ≡ data_stored kind mem.old a v }
 {
-    let start = data_start(kind);
-    let i = a as usize;
-    if a < start {
+    if a < data_start(kind) {
         return;
     }
+    let i = a as usize;
     if i < mem.len() {
         mem[i] = v;
     }
 }
 
-// Bytes stored upward in address order. This and `store_byte` alone write to data memory.
+// Bytes stored upward in address order. (`write_from` of `registers` is its like for registers; with the store handed to it, one function
+// would be no plainer.) This and `store_byte` alone write to data memory.
 pub fn store_bytes(kind: u8, mem: &mut [u8], a: u16, b: Bytes)
     ensures { mem.new ≡ stored_from kind mem.old a (list_of b) }
 {

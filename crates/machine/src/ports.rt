@@ -60,7 +60,7 @@ fn port3_lines() -> Directions
     }
 }
 
-// The directions of port n.
+// The directions of port n. (A number and no enum, here and in `pins_of`: both answer for any n, which may not change.)
 pub fn directions_of(p01m: u8, p2m: u8, n: u8) -> Directions
     ensures { result ≡ directions_of p01m p2m n }
 {

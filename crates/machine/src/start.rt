@@ -3,15 +3,9 @@ ghost use Rattle.std.specs.Prelude.{◌≡◌};
 ghost use Rattle.machine.specs.Start.{placed_all, reset_places, started_with, reset_of, new_of, default_of, is_kind, is_cost, made_of, full_timer, resting_port};
 
 use crate::{File, Machine, names};
+use numbers::Refusal;
 use serial::Port;
 use timers::Timer;
-
-// A new machine; or a refusal's number, and then the standard machine, as the answer has to hold one.
-#[derive(Clone, Copy)]
-pub struct Made {
-    pub refusal: u8,
-    pub machine: Machine,
-}
 
 fn full_timer() -> Timer
     ensures { result ≡ full_timer }
@@ -26,38 +20,45 @@ fn full_timer() -> Timer
 fn resting_port() -> Port
     ensures { result ≡ resting_port }
 {
-    let receiver = serial::receiving::waiting(0);
-    let transmitter = serial::sending::idle();
+    let receiver = serial::Receiver::waiting(0);
+    let transmitter = serial::Transmitter::idle();
     Port {
         receiver,
         transmitter,
     }
 }
 
-// The places that reset writes, in address order: the ports' latches, and F0 to FF.
+// The places that reset writes, in address order, and what they then hold: the ports' latches, and F0 to FF.
+const RESET_PLACES: [(u8, u8); 20] = [
+    (0x00, 0),
+    (0x01, 0),
+    (0x02, 0),
+    (0x03, 0),
+    (names::SIO, 0),
+    (names::TMR, 0),
+    (names::T1, 0),
+    (names::PRE1, 0),
+    (names::T0, 0),
+    (names::PRE0, 0),
+    (names::P2M, 0xFF),
+    (names::P3M, 0),
+    (names::P01M, 0x4D),
+    (names::IPR, 0),
+    (names::IRQ, 0),
+    (names::IMR, 0),
+    (names::FLAGS, 0),
+    (names::RP, 0),
+    (names::SPH, 0),
+    (names::SPL, 0),
+];
+
+#[tactic(auto, unfolding(crate::specs::Start::reset_places))]
 fn reset_places(regs: &mut File)
     ensures { regs.new ≡ placed_all regs.old reset_places }
 {
-    crate::file::place(regs, 0x00, 0);
-    crate::file::place(regs, 0x01, 0);
-    crate::file::place(regs, 0x02, 0);
-    crate::file::place(regs, 0x03, 0);
-    crate::file::place(regs, names::SIO, 0);
-    crate::file::place(regs, names::TMR, 0);
-    crate::file::place(regs, names::T1, 0);
-    crate::file::place(regs, names::PRE1, 0);
-    crate::file::place(regs, names::T0, 0);
-    crate::file::place(regs, names::PRE0, 0);
-    crate::file::place(regs, names::P2M, 0xFF);
-    crate::file::place(regs, names::P3M, 0);
-    crate::file::place(regs, names::P01M, 0x4D);
-    crate::file::place(regs, names::IPR, 0);
-    crate::file::place(regs, names::IRQ, 0);
-    crate::file::place(regs, names::IMR, 0);
-    crate::file::place(regs, names::FLAGS, 0);
-    crate::file::place(regs, names::RP, 0);
-    crate::file::place(regs, names::SPH, 0);
-    crate::file::place(regs, names::SPL, 0);
+    for &(a, v) in &RESET_PLACES {
+        regs[a as usize] = v;
+    }
 }
 
 // The machine as it starts, of a file whose R4 to R127 stay.
@@ -85,6 +86,7 @@ fn started_with(file: File, kind: u8, cost: u8) -> Machine
 }
 
 // The machine after a reset.
+#[tactic(auto, unfolding(crate::specs::Start::reset_of))]
 pub fn reset(m: Machine) -> Machine
     ensures { result ≡ reset_of m }
 {
@@ -122,6 +124,7 @@ impl Machine {
     pub const DEFAULT_COST: u8 = 20;
 
     // A new machine of this type and entry cost.
+    #[tactic(auto, unfolding(crate::specs::Start::new_of))]
     fn fresh(kind: u8, cost: u8) -> Self
         ensures { result ≡ new_of kind cost }
     {
@@ -129,31 +132,29 @@ impl Machine {
         started_with(file, kind, cost)
     }
 
-    // A new machine where nothing is named.
-    pub fn default() -> Self
-        ensures { result ≡ default_of }
-    {
-        Machine::fresh(Machine::DEFAULT_KIND, Machine::DEFAULT_COST)
-    }
-
     // A new machine of this type and entry cost, or refusal 3.
-    pub fn make(kind: u32, cost: u32) -> Made
+    #[tactic(auto, unfolding(crate::specs::Start::made_of))]
+    pub fn make(kind: u32, cost: u32) -> Result<Self, Refusal>
         ensures { result ≡ made_of kind cost }
     {
         let known = is_kind(kind);
         let payable = is_cost(cost);
         if known & payable {
-            let machine = Machine::fresh(kind as u8, cost as u8);
-            Made {
-                refusal: numbers::DONE,
-                machine,
-            }
+            Ok(Machine::fresh(kind as u8, cost as u8))
         } else {
-            let machine = Machine::default();
-            Made {
-                refusal: numbers::REFUSED_MAKING,
-                machine,
-            }
+            Err(Refusal::Making)
         }
+    }
+}
+
+// A new machine where nothing is named.
+impl Default for Machine {
+    ghost is_default = { λ m. m ≡ default_of };
+
+    #[tactic(auto, unfolding(crate::specs::Start::default_of))]
+    fn default() -> Self
+        ensures { result ≡ default_of }
+    {
+        Machine::fresh(Machine::DEFAULT_KIND, Machine::DEFAULT_COST)
     }
 }

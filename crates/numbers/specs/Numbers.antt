@@ -1,5 +1,7 @@
 -- The numbers that a caller sees and every definition shares (01 "Numbers the encoder sees").
-use Rattle.std.specs.Prelude.{ℕ, ◌+◌, ◌*◌}
+use Rattle.std.specs.Prelude.{ℕ, ◌+◌, ◌*◌, Result, Ok, Err}
+use Rattle.numbers.specs.declared.Refusal.{Refusal}
+use Rattle.numbers.specs.declared.Refusal.TheVariants as refusal
 
 -- ---- 01's table: "given exactly when"
 
@@ -34,6 +36,22 @@ refused_length = 7
 -- "instruction to encode is none of the 231"
 abbrev pub refused_instruction : ℕ
 refused_instruction = 8
+
+-- the refusals by their names, each with its number
+abbrev pub number_of : Refusal → ℕ
+number_of refusal.Image = refused_image
+number_of refusal.Data = refused_data
+number_of refusal.Making = refused_making
+number_of refusal.Budget = refused_budget
+number_of refusal.Opcode = refused_opcode
+number_of refusal.Machine = refused_machine
+number_of refusal.Length = refused_length
+number_of refusal.Instruction = refused_instruction
+
+-- the number that is answered: a refusal's, and 0 where nothing is refused
+abbrev pub answered : {A : Type 0} → Result A Refusal → ℕ
+answered (Ok x) = 0
+answered (Err e) = number_of e
 
 -- ---- lengths and limits
 

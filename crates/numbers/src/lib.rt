@@ -2,24 +2,30 @@
 // has the same under the same names.
 #![tactic(auto)]
 
-// What is answered where nothing is refused, and 01's table of refusals.
-pub const DONE: u8 = 0;
+ghost use Rattle.std.specs.Prelude.{◌≡◌};
+ghost use Rattle.numbers.specs.Numbers.{number_of};
 
-pub const REFUSED_IMAGE: u8 = 1;
+// 01's table of refusals, and their numbers in it. 0 is answered where nothing is refused.
+#[derive(Clone, Copy, PartialEq, Eq)]
+pub enum Refusal {
+    Image = 1,
+    Data = 2,
+    Making = 3,
+    Budget = 4,
+    Opcode = 5,
+    Machine = 6,
+    Length = 7,
+    Instruction = 8,
+}
 
-pub const REFUSED_DATA: u8 = 2;
-
-pub const REFUSED_MAKING: u8 = 3;
-
-pub const REFUSED_BUDGET: u8 = 4;
-
-pub const REFUSED_OPCODE: u8 = 5;
-
-pub const REFUSED_MACHINE: u8 = 6;
-
-pub const REFUSED_LENGTH: u8 = 7;
-
-pub const REFUSED_INSTRUCTION: u8 = 8;
+impl Refusal {
+    // The number that a caller sees.
+    pub fn number(self) -> u32
+        ensures { result ≡ number_of self }
+    {
+        self as u32
+    }
+}
 
 // The places of a register file, and the bytes of a saved machine: these places, twelve bytes more, and eight of the serial port.
 pub const FILE_LENGTH: usize = 256;

@@ -1,12 +1,12 @@
 -- Columns 0 and 1: a law for each sort of arm.
 use mathlib.Core.Path.{◌≡◌, refl, ◌∙◌, ap}
 use mathlib.Core.List.{List}
+use Rattle.std.proofs.Common.{Option, Some, None}
 use Prim.Native.Nat.{ℕ}
 use native.Mathlib.Omega.{arith}
 use Rattle.word.specs.Fields.{upper, lower}
 use Rattle.alu.specs.Decimal.{da_of}
-use Rattle.alu.specs.declared.Adjusted.{Adjusted}
-use Rattle.alu.specs.declared.Adjusted.TheVariants.{By, NoRow}
+use Rattle.alu.specs.declared.Outcome.{Outcome}
 use Rattle.opcodes.specs.Map.{entry_of, opcode_map}
 use Rattle.opcodes.specs.Instruction.{length_of}
 use Rattle.opcodes.specs.ForCode.{one_mode, unary_cost, push_cost}
@@ -24,8 +24,7 @@ use Rattle.machine.specs.Stack.{is_internal, pushed, stack_byte}
 use Rattle.machine.specs.declared.Machine.{Machine}
 use Rattle.machine.specs.declared.Pins.{Pins}
 use Rattle.machine.specs.declared.Bytes.TheVariants as bytes
-use Rattle.machine.specs.declared.Stores.TheVariants as stores
-use Rattle.lent.specs.View.{Left, stacked}
+use Rattle.machine.specs.ForCode.{Left, stacked}
 use Rattle.deeds.specs.Modes.{flags_of, one_at, target_of}
 use Rattle.deeds.specs.Results.{unary_of, paired_of}
 use Rattle.deeds.specs.Pages.{deed_of, outcome_of, unary_deed, paired_deed, clr_deed, da_deed, adjust_deed, pop_deed, push_deed, jp_deed}
@@ -40,10 +39,10 @@ use Rattle.operands.proofs.Arms.{Is, Throughout, in_area, at_opcode, doing, kind
 abbrev pub Both : ℕ → (One → Kind) → Type 0
 Both row f = Throughout row 1 0 2 (λ lo. f (one_mode lo))
 
-adjust_stores : (p : Pins) (n : Machine) (dst : ℕ) (x : Adjusted) → (done_of p n (adjust_deed dst x)).stores ≡ stores.Nothing
+adjust_stores : (p : Pins) (n : Machine) (dst : ℕ) (x : Option (Outcome ℕ)) → (done_of p n (adjust_deed dst x)).stores ≡ None
 unfolding done_of adjust_deed
-adjust_stores p n dst (By o) = refl
-adjust_stores p n dst NoRow = refl
+adjust_stores p n dst (Some o) = refl
+adjust_stores p n dst None = refl
 
 module _ {p : Pins} {n : Machine} {pc : ℕ} {i : Code} {o : Operands} (image mem : List ℕ) (m : At 0 2 p n pc i o) where
   abbrev This : Performed → Type 0

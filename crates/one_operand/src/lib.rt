@@ -1,8 +1,7 @@
 // Columns 0 and 1 of the map: an instruction with one operand, R or IR; and JP IRR and SRP, which stand there too.
 #![tactic(auto)]
 
-ghost use Rattle.std.specs.Prelude.{◌≡◌};
-ghost use Rattle.lent.specs.View.{machine_in};
+ghost use Rattle.std.specs.Prelude.{◌≡◌, List, ℕ};
 ghost use Rattle.word.specs.Choose.{pick};
 ghost use Rattle.alu.specs.Decimal.{da_of};
 ghost use Rattle.machine.specs.Registers.{read_reg};
@@ -10,27 +9,22 @@ ghost use Rattle.deeds.specs.Modes.{flags_of};
 ghost use Rattle.deeds.specs.Pages.{adjust_deed};
 ghost use Rattle.execute.specs.Doing.{done_of};
 ghost use Rattle.opcodes.specs.ForCode.{one_mode, push_cost};
-ghost use Rattle.execute.specs.ForCode.{performed, instruction_at};
+ghost use Rattle.execute.specs.ForCode.{left_with, instruction_at};
 ghost use Rattle.operands.specs.ForCode.{At};
 
-use alu::Adjusted;
 use deeds::Code;
-use lent::Rest;
-use machine::{Bytes, File, Pins, names};
+use execute::doing;
+use machine::{Bytes, Machine, Pins, names};
+use numbers::Refusal;
 use operands::Operands;
 
 // DA's outcome, where there is one, stored.
-fn da(regs: &mut File, rest: &mut Rest, pins: Pins, a: u8)
-    ensures { machine_in regs.new rest.new ≡ (done_of pins (machine_in regs.old rest.old) (adjust_deed a (da_of (read_reg pins (machine_in regs.old rest.old) a) (flags_of (machine_in regs.old rest.old))))).machine }
+fn da(m: &mut Machine, pins: Pins, a: u8)
+    ensures { m.new ≡ (done_of pins m.old (adjust_deed a (da_of (read_reg pins m.old a) (flags_of m.old)))).machine }
 {
-    let was = registers::read(regs, rest, pins, a);
-    let f = execute::doing::flags(regs, rest);
-    let x = alu::decimal::da(was, f);
-    match x {
-        Adjusted::By(o) => {
-            execute::doing::store(regs, rest, a, o);
-        }
-        Adjusted::NoRow => {}
+    let was = registers::read(m, pins, a);
+    if let Some(o) = alu::decimal::da(was, doing::flags(m)) {
+        doing::store(m, a, o);
     }
 }
 
@@ -52,112 +46,95 @@ fn push_cycles(lo: u8, internal: bool) -> u32
 }
 
 pub fn one(
-    regs: &mut File,
-    rest: &mut Rest,
+    m: &mut Machine,
     pins: Pins,
     mem: &mut [u8],
-    image: &[u8],
     pc: u16,
     i: Code,
     o: Operands,
-) -> u32
-    requires { At 0 2 pins (machine_in regs.old rest.old) pc i o }
-    ensures { performed (machine_in regs.new rest.new) mem.new result ≡ instruction_at pins image.now mem.old (machine_in regs.old rest.old) pc i }
+) -> Result<u32, Refusal>
+    requires { At 0 2 pins m.old pc i o }
+    ensures { (image : List ℕ) → left_with m.new mem.new result ≡ instruction_at pins image mem.old m.old pc i }
 {
     let row = i.op / 16;
     let lo = i.op % 16;
     let a = o.dst;
     // read here for all that want it: an arm that doesn't loses little, and the whole stays small enough to be put into the run's loop
-    let was = registers::read(regs, rest, pins, a);
+    let was = registers::read(m, pins, a);
     match row {
         0 => {
-            let r = alu::arithmetic::dec(was);
-            execute::doing::store(regs, rest, a, r);
-            6
+            doing::store(m, a, alu::arithmetic::dec(was));
+            Ok(6)
         }
         1 => {
-            let f = execute::doing::flags(regs, rest);
-            let r = alu::rotate::rlc(was, f);
-            execute::doing::store(regs, rest, a, r);
-            6
+            doing::store(m, a, alu::rotate::rlc(was, doing::flags(m)));
+            Ok(6)
         }
         2 => {
-            let r = alu::arithmetic::inc(was);
-            execute::doing::store(regs, rest, a, r);
-            6
+            doing::store(m, a, alu::arithmetic::inc(was));
+            Ok(6)
         }
         3 => {
             if lo == 0 {
-                let to = registers::addresses::read_pair(regs, rest, pins, a);
-                lent::set_pc(regs, rest, to);
-                return 8;
+                let to = registers::addresses::read_pair(m, pins, a);
+                m.pc = to;
+                return Ok(8);
             }
-            registers::write(regs, rest, names::RP, i.first);
-            6
+            registers::write(m, names::RP, i.first);
+            Ok(6)
         }
         4 => {
-            da(regs, rest, pins, a);
-            8
+            da(m, pins, a);
+            Ok(8)
         }
         5 => {
-            let v = registers::stack::byte_at(regs, rest, pins, mem, 0);
-            registers::stack::raise(regs, rest, 1);
-            registers::write(regs, rest, a, v);
-            10
+            let v = registers::stack::byte_at(m, pins, mem, 0);
+            registers::stack::raise(m, 1);
+            registers::write(m, a, v);
+            Ok(10)
         }
         6 => {
-            let r = alu::logical::com(was);
-            execute::doing::store(regs, rest, a, r);
-            6
+            doing::store(m, a, alu::logical::com(was));
+            Ok(6)
         }
         7 => {
-            let internal = registers::stack::is_internal(regs, rest);
-            let cycles = push_cycles(lo, internal);
-            let b = Bytes::One(was);
-            registers::stack::push(regs, rest, mem, b);
-            cycles
+            let cycles = push_cycles(lo, registers::stack::is_internal(m));
+            registers::stack::push(m, mem, Bytes::One(was));
+            Ok(cycles)
         }
         8 => {
-            let pair = registers::addresses::read_pair(regs, rest, pins, a);
-            let r = alu::arithmetic::decw(pair);
-            execute::doing::store_word(regs, rest, a, r);
-            10
+            let pair = registers::addresses::read_pair(m, pins, a);
+            doing::store_word(m, a, alu::arithmetic::decw(pair));
+            Ok(10)
         }
         9 => {
-            let r = alu::rotate::rl(was);
-            execute::doing::store(regs, rest, a, r);
-            6
+            doing::store(m, a, alu::rotate::rl(was));
+            Ok(6)
         }
         10 => {
-            let pair = registers::addresses::read_pair(regs, rest, pins, a);
-            let r = alu::arithmetic::incw(pair);
-            execute::doing::store_word(regs, rest, a, r);
-            10
+            let pair = registers::addresses::read_pair(m, pins, a);
+            doing::store_word(m, a, alu::arithmetic::incw(pair));
+            Ok(10)
         }
         11 => {
-            registers::write(regs, rest, a, 0);
-            6
+            registers::write(m, a, 0);
+            Ok(6)
         }
         12 => {
-            let f = execute::doing::flags(regs, rest);
-            let r = alu::rotate::rrc(was, f);
-            execute::doing::store(regs, rest, a, r);
-            6
+            doing::store(m, a, alu::rotate::rrc(was, doing::flags(m)));
+            Ok(6)
         }
         13 => {
-            let r = alu::rotate::sra(was);
-            execute::doing::store(regs, rest, a, r);
-            6
+            doing::store(m, a, alu::rotate::sra(was));
+            Ok(6)
         }
         14 => {
-            let r = alu::rotate::rr(was);
-            execute::doing::store(regs, rest, a, r);
-            6
+            doing::store(m, a, alu::rotate::rr(was));
+            Ok(6)
         }
         _ => {
-            let r = alu::rotate::swap(was);
-            execute::doing::store(regs, rest, a, r);
-            8
+            doing::store(m, a, alu::rotate::swap(was));
+            Ok(8)
         }
     }
 }

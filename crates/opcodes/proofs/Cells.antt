@@ -4,15 +4,16 @@ use mathlib.Core.Bool.{true, false, not}
 use mathlib.Core.List.{List}
 use Prim.Native.Nat.{ℕ, ◌+◌, ◌-◌, ◌*◌, ◌≤◌, ◌<◌}
 use native.Mathlib.Omega.{arith}
-use lib.Dec.{T}
+use lib.Dec.{T, eqb, eqb→eq}
+use lib.ListN.{get_or}
+use borrow.Author.Tests.{ne_eqb}
 use Rattle.word.specs.Fields.{upper, lower}
-use Rattle.word.proofs.Computed.{made, agree2}
-use Rattle.opcodes.specs.declared.Entry.{Entry}
-use Rattle.opcodes.specs.declared.Entry.TheVariants.{Blank, Of}
-use Rattle.opcodes.specs.declared.Decoded.TheVariants as decoded
+use Rattle.word.proofs.Computed.{made, agree2, fails, NoneOf, else_passes}
+use Rattle.std.specs.Prelude.{Option, Some, None, Ok, Err}
+use Rattle.numbers.specs.declared.Refusal.TheVariants as refusal
+use Rattle.opcodes.specs.declared.Kind.{Kind}
 use Rattle.opcodes.specs.Map.{entry_of}
-use Rattle.numbers.specs.Numbers.{refused_opcode}
-use Rattle.opcodes.specs.Instruction.{defined, length_of, operand, decoded_as, decode_of}
+use Rattle.opcodes.specs.Instruction.{defined, lengths, length_of, operand, decoded, decoded_as, decode_of}
 
 -- f, of an upper and a lower nibble, in the m columns from j of the n rows from i
 abbrev pub part : {A : Type 0} → ℕ → ℕ → ℕ → ℕ → (ℕ → ℕ → A) → List (List A)
@@ -29,23 +30,31 @@ in_part f g i n j m op u l e =
     at (agree2 (λ a b. f (i + a) (j + b)) (λ a b. g ((i + a) * 16 + (j + b))) n m e (upper op - i) (lower op - j) (omega arith) (omega arith))
 
 -- a cell without an instruction is blank
-pub blank_is : (e : Entry) → T (not (defined e)) → Blank ≡ e
-blank_is Blank t = refl
-blank_is (Of k) t = absurd t
+pub blank_is : (e : Option Kind) → T (not (defined e)) → None ≡ e
+blank_is None t = refl
+blank_is (Some k) t = absurd t
 
 -- what is decoded, by whether the map has an instruction there
-pub decoded_where : (op a b : ℕ) → defined (entry_of op) ≡ true → decode_of op a b ≡ decoded.Instruction op (operand 2 op a) (operand 3 op b) (length_of op)
+pub decoded_where : (op a b : ℕ) → defined (entry_of op) ≡ true → decode_of op a b ≡ Ok (decoded op (operand 2 op a) (operand 3 op b) (length_of op))
 unfolding decode_of
 decoded_where op a b d = go (entry_of op) d
   where
-    go : (e : Entry) → defined e ≡ true → decoded_as e op a b ≡ decoded.Instruction op (operand 2 op a) (operand 3 op b) (length_of op)
-    go Blank d = absurd (subst T (sym d) tt)
-    go (Of k) d = refl
+    go : (e : Option Kind) → defined e ≡ true → decoded_as e op a b ≡ Ok (decoded op (operand 2 op a) (operand 3 op b) (length_of op))
+    go None d = absurd (subst T (sym d) tt)
+    go (Some k) d = refl
 
-pub decoded_where_not : (op a b : ℕ) → defined (entry_of op) ≡ false → decode_of op a b ≡ decoded.Refused refused_opcode
+pub decoded_where_not : (op a b : ℕ) → defined (entry_of op) ≡ false → decode_of op a b ≡ Err refusal.Opcode
 unfolding decode_of
 decoded_where_not op a b d = go (entry_of op) d
   where
-    go : (e : Entry) → defined e ≡ false → decoded_as e op a b ≡ decoded.Refused refused_opcode
-    go Blank d = refl
-    go (Of k) d = absurd (subst T d tt)
+    go : (e : Option Kind) → defined e ≡ false → decoded_as e op a b ≡ Err refusal.Opcode
+    go None d = refl
+    go (Some k) d = absurd (subst T d tt)
+
+-- the length by a low nibble that is none of those with another length
+pub nibble : (v op : ℕ) → (op ≡ 0xD4 → ⊥) → NoneOf (lower op) (fails (λ lo. eqb (get_or lengths lo 0) v) 16) → v ≡ length_of op
+unfolding length_of
+nibble v op d n =
+    let e : get_or lengths (lower op) 0 ≡ v =
+    eqb→eq (get_or lengths (lower op) 0) v (else_passes (λ lo. eqb (get_or lengths lo 0) v) 16 (lower op) (omega arith) n) in
+    simp (ne_eqb op 0xD4 d) (sym e)

@@ -1,6 +1,6 @@
 -- What the map promises besides the functions' contracts: which opcodes are undefined and how many are defined, what each costs, and
 -- that decoding and encoding undo each other. Tests over all 256 opcodes are computed; operand bytes are variables throughout.
-use mathlib.Core.Path.{◌≡◌, ◌∙◌, refl, sym, ap, subst}
+use mathlib.Core.Path.{◌≡◌, ◌∙◌, refl, ap}
 use mathlib.Core.Bool.{Bool, true, false, ◌&&◌}
 use mathlib.Core.List.{List, [], ◌∷◌, ◌++◌}
 use Prim.Native.Nat.{ℕ, zero, suc, ◌+◌, ◌*◌, ◌≤◌, ◌<◌}
@@ -12,15 +12,16 @@ use lib.Dec.{T, eqb, leb, eqb→eq, leb→le}
 use borrow.Author.Tests.{eq-eqb}
 use Rattle.word.specs.Choose.{pick, one_if}
 use Rattle.word.proofs.Computed.{below, at, and_left, and_right, agree}
-use Rattle.opcodes.specs.declared.Entry.{Entry}
-use Rattle.opcodes.specs.declared.Entry.TheVariants.{Blank, Of}
+use Rattle.std.specs.Prelude.{Option, Some, None, Result, Ok, Err}
+use Rattle.numbers.specs.declared.Refusal.{Refusal}
+use Rattle.numbers.specs.declared.Refusal.TheVariants as refusal
 use Rattle.opcodes.specs.declared.Kind.{Kind}
-use Rattle.opcodes.specs.declared.Decoded.TheVariants as decoded
-use Rattle.opcodes.specs.declared.Encoded.TheVariants as encoded
+use Rattle.opcodes.specs.declared.Decoded.{Decoded}
+use Rattle.opcodes.specs.declared.Encoded.{Encoded}
 use Rattle.opcodes.specs.Map.{entry_of, opcode_map}
 use Rattle.opcodes.specs.ForCode.{cost_of}
 use Rattle.opcodes.specs.Cycles.{cycles_of, cycle_map}
-use Rattle.opcodes.specs.Instruction.{defined, length_of, operand, decode_of, decoded_as, encode_of, is_instruction}
+use Rattle.opcodes.specs.Instruction.{defined, length_of, operand, decoded, encoded, decode_of, decoded_as, encode_of, is_instruction}
 
 abbrev pub is_defined : ℕ → Bool
 is_defined op = defined (entry_of op)
@@ -73,9 +74,9 @@ unfolding in_range
 blank_costs_nothing op first h d = eqb→eq (cycles_of op first) 0 (rw d at (at (in_range first) 256 (ranges first) op h))
 
 -- the cycles by an opcode's entry
-abbrev by_entry : Bool → Entry → ℕ
-by_entry first Blank = 0
-by_entry first (Of k) = cost_of k first
+abbrev by_entry : Bool → Option Kind → ℕ
+by_entry first None = 0
+by_entry first (Some k) = cost_of k first
 
 entry_cycles : (first : Bool) (op : ℕ) → op < 256 → cycles_of op first ≡ by_entry first (entry_of op)
 unfolding entry_of opcode_map cycles_of cycle_map
@@ -83,19 +84,16 @@ entry_cycles true op h = agree (λ x. cycles_of x true) (λ x. by_entry true (en
 entry_cycles false op h = agree (λ x. cycles_of x false) (λ x. by_entry false (entry_of x)) 256 refl op h
 
 -- nothing is defined past the map's 256 cells
-beyond : (op : ℕ) → 256 ≤ op → entry_of op ≡ Blank
+beyond : (op : ℕ) → 256 ≤ op → entry_of op ≡ None
 unfolding entry_of opcode_map
-beyond op h = ap (λ row. get_or row (lower op) Blank) (get_or-eq_default opcode_map [] {n = upper op} (omega arith))
+beyond op h = ap (λ row. get_or row (lower op) None) (get_or-eq_default opcode_map [] {n = upper op} (omega arith))
 
-blank_or : {k : Kind} → Blank ≡ Of k → ⊥
-blank_or e = subst (λ (x : Entry). T (defined x)) (sym e) tt
-
-pub cycles_by_kind : {k : Kind} (op : ℕ) (first : Bool) → entry_of op ≡ Of k → cycles_of op first ≡ cost_of k first
+pub cycles_by_kind : {k : Kind} (op : ℕ) (first : Bool) → entry_of op ≡ Some k → cycles_of op first ≡ cost_of k first
 cycles_by_kind {k} op first e = go (dec_lt op 256)
   where
     go : Dec (op < 256) → cycles_of op first ≡ cost_of k first
     go (yes h) = entry_cycles first op h ∙ ap (by_entry first) e
-    go (no h) = absurd (blank_or (sym (beyond op (omega arith)) ∙ e))
+    go (no h) = let none = beyond op (omega arith) in cc
 
 -- a byte that is zero where the instruction hasn't it is its own
 own_again : (has : Bool) (b : ℕ) → eqb (pick has (pick has b 0) 0) (pick has b 0) ≡ true
@@ -103,34 +101,31 @@ own_again true b = eq-eqb b b refl
 own_again false b = refl
 
 -- what decodes to an instruction has an entry in the map
-encodes : (op b1 b2 : ℕ) {k : Kind} → entry_of op ≡ Of k
-    → encode_of op (operand 2 op b1) (operand 3 op b2) ≡ encoded.Bytes (length_of op) op (operand 2 op b1) (operand 3 op b2)
+encodes : (op b1 b2 : ℕ) {k : Kind} → entry_of op ≡ Some k
+    → encode_of op (operand 2 op b1) (operand 3 op b2) ≡ Ok (encoded (length_of op) op (operand 2 op b1) (operand 3 op b2))
 unfolding encode_of
 encodes op b1 b2 w = rw (w, own_again (leb 2 (length_of op)) b1, own_again (leb 3 (length_of op)) b2)
 
 -- whatever three bytes decode to is encoded to these bytes, as far as they are the instruction's own, and zero after them
-pub encode_undoes_decode : (b0 b1 b2 : ℕ) {op a b n : ℕ} → decode_of b0 b1 b2 ≡ decoded.Instruction op a b n
-    → encode_of op a b ≡ encoded.Bytes n b0 (operand 2 b0 b1) (operand 3 b0 b2)
+pub encode_undoes_decode : (b0 b1 b2 : ℕ) {i : Decoded} → decode_of b0 b1 b2 ≡ Ok i
+    → encode_of i.op i.first i.second ≡ Ok (encoded i.size b0 (operand 2 b0 b1) (operand 3 b0 b2))
 unfolding decode_of
 encode_undoes_decode b0 b1 b2 d = go (entry_of b0) refl d
   where
-    go : {op a b n : ℕ} (e : Entry) → entry_of b0 ≡ e → decoded_as e b0 b1 b2 ≡ decoded.Instruction op a b n
-        → encode_of op a b ≡ encoded.Bytes n b0 (operand 2 b0 b1) (operand 3 b0 b2)
-    go Blank w d = let z : ◌≡◌ {A = ℕ} 0 1 = cc in absurd (omega arith)
-    go {op} {a} {b} {n} (Of k) w d =
-        let p : b0 ≡ op = cc in
-        let q : operand 2 b0 b1 ≡ a = cc in
-        let r : operand 3 b0 b2 ≡ b = cc in
-        let s : length_of b0 ≡ n = cc in
-        rw (← p, ← q, ← r, ← s) (encodes b0 b1 b2 w)
+    go : {i : Decoded} (e : Option Kind) → entry_of b0 ≡ e → decoded_as e b0 b1 b2 ≡ Ok i
+        → encode_of i.op i.first i.second ≡ Ok (encoded i.size b0 (operand 2 b0 b1) (operand 3 b0 b2))
+    go None w d = cc
+    go {i} (Some k) w d =
+        let e : decoded b0 (operand 2 b0 b1) (operand 3 b0 b2) (length_of b0) ≡ i = cc in
+        rw (← e) (encodes b0 b1 b2 w)
 
-decodes : (e : Entry) (op a b : ℕ) → T (defined e)
-    → decoded_as e op a b ≡ decoded.Instruction op (operand 2 op a) (operand 3 op b) (length_of op)
-decodes Blank op a b d = absurd d
-decodes (Of k) op a b d = refl
+decodes : (e : Option Kind) (op a b : ℕ) → T (defined e)
+    → decoded_as e op a b ≡ Ok (decoded op (operand 2 op a) (operand 3 op b) (length_of op))
+decodes None op a b d = absurd d
+decodes (Some k) op a b d = refl
 
 -- an instruction's own bytes decode to it
-own_bytes : (op a b : ℕ) → T (is_instruction op a b) → decode_of op a b ≡ decoded.Instruction op a b (length_of op)
+own_bytes : (op a b : ℕ) → T (is_instruction op a b) → decode_of op a b ≡ Ok (decoded op a b (length_of op))
 unfolding decode_of
 own_bytes op a b i =
     let one = eqb (operand 2 op a) a in
@@ -141,18 +136,15 @@ own_bytes op a b i =
     rw (decodes (entry_of op) op a b (and_left (defined (entry_of op)) (one && two) i), first, second)
 
 -- and whatever an instruction is encoded to decodes to that instruction
-pub decode_undoes_encode : (op a b : ℕ) {n b0 b1 b2 : ℕ} → encode_of op a b ≡ encoded.Bytes n b0 b1 b2
-    → decode_of b0 b1 b2 ≡ decoded.Instruction op a b n
+pub decode_undoes_encode : (op a b : ℕ) {x : Encoded} → encode_of op a b ≡ Ok x
+    → decode_of x.byte0 x.byte1 x.byte2 ≡ Ok (decoded op a b x.size)
 unfolding encode_of
-decode_undoes_encode op a b {n} {b0} {b1} {b2} e = go (is_instruction op a b) refl e
+decode_undoes_encode op a b {x} e = go (is_instruction op a b) refl e
   where
     go : (t : Bool) → is_instruction op a b ≡ t
-        → pick t (encoded.Bytes (length_of op) op a b) (encoded.Refused 8) ≡ encoded.Bytes n b0 b1 b2
-        → decode_of b0 b1 b2 ≡ decoded.Instruction op a b n
+        → pick {A = Result Encoded Refusal} t (Ok (encoded (length_of op) op a b)) (Err refusal.Instruction) ≡ Ok x
+        → decode_of x.byte0 x.byte1 x.byte2 ≡ Ok (decoded op a b x.size)
     go true i f =
-        let p : op ≡ b0 = cc in
-        let q : a ≡ b1 = cc in
-        let r : b ≡ b2 = cc in
-        let s : length_of op ≡ n = cc in
-        rw (← p, ← q, ← r, ← s) (own_bytes op a b (rw i tt))
-    go false i f = let z : ◌≡◌ {A = ℕ} 0 1 = cc in absurd (omega arith)
+        let is : encoded (length_of op) op a b ≡ x = cc in
+        rw (← is) (own_bytes op a b (rw i tt))
+    go false i f = cc

@@ -2,10 +2,8 @@
 -- 5.6 give the same opcodes. (Column F is whole in 003 alone, which for its part has Ir where the others have Irr.) Each entry is a mnemonic with its
 -- address modes (5.4), destination first as in 5.5, where the maps print the order of the bytes (1 is the destination, 2 the source).
 -- "The blank areas are not defined": "231 opcodes are defined. The 25 undefined" (01) are exactly these (proved: `undefined_are`).
-use Rattle.std.specs.Prelude.{ℕ, List, [], ◌∷◌, get_or}
+use Rattle.std.specs.Prelude.{ℕ, List, [], ◌∷◌, get_or, Option, Some, None}
 use Rattle.word.specs.Fields.{upper, lower}
-use Rattle.opcodes.specs.declared.Entry.{Entry}
-use Rattle.opcodes.specs.declared.Entry.TheVariants.{Blank, Of}
 use Rattle.opcodes.specs.declared.Kind.{Kind}
 use Rattle.opcodes.specs.declared.Kind.TheVariants.{Binary, Test, Unary, Paired, Call, Ccf, Clr, Da, Di, Djnz, Ei, Iret, Jp, Jr, Ld, Ldc, Ldci, Lde, Ldei, Nop, Pop, Push, Rcf, Ret, Scf, Srp}
 use Rattle.opcodes.specs.declared.Binary.TheVariants as binary
@@ -161,36 +159,36 @@ Decw w = Paired paired.Decw w
 abbrev pub Incw : One → Kind
 Incw w = Paired paired.Incw w
 
--- an instruction in a row, where a blank area is `Blank ∷`
+-- an instruction in a row, where a blank area is `None ∷`
 infixr 67 ◌│◌
-abbrev ◌│◌ : Kind → List Entry → List Entry
-k │ es = Of k ∷ es
+abbrev ◌│◌ : Kind → List (Option Kind) → List (Option Kind)
+k │ es = Some k ∷ es
 
 -- columns 8 to E, which the manual prints once for all rows (DJNZ r,RA; JR cc,RA; JP cc,DA), and column F
-abbrev across : Entry → List Entry
+abbrev across : Option Kind → List (Option Kind)
 across alone = Ld r-R │ Ld R-r │ Djnz │ Jr │ Ld r-IM │ Jp DA │ Inc r │ alone ∷ []
 
 -- columns 0 to 7, then 8 to F; the upper nibble stands behind its row
-unfoldable pub opcode_map : List (List Entry)
+unfoldable pub opcode_map : List (List (Option Kind))
 opcode_map =
-    (Dec R │ Dec IR │ Add r-r │ Add r-Ir │ Add R-R │ Add R-IR │ Add R-IM │ Add IR-IM │ across Blank)  -- 0
-    ∷ (Rlc R │ Rlc IR │ Adc r-r │ Adc r-Ir │ Adc R-R │ Adc R-IR │ Adc R-IM │ Adc IR-IM │ across Blank)  -- 1
-    ∷ (Inc R │ Inc IR │ Sub r-r │ Sub r-Ir │ Sub R-R │ Sub R-IR │ Sub R-IM │ Sub IR-IM │ across Blank)  -- 2
-    ∷ (Jp IRR │ Srp │ Sbc r-r │ Sbc r-Ir │ Sbc R-R │ Sbc R-IR │ Sbc R-IM │ Sbc IR-IM │ across Blank)  -- 3
-    ∷ (Da R │ Da IR │ Or r-r │ Or r-Ir │ Or R-R │ Or R-IR │ Or R-IM │ Or IR-IM │ across Blank)  -- 4
-    ∷ (Pop R │ Pop IR │ And r-r │ And r-Ir │ And R-R │ And R-IR │ And R-IM │ And IR-IM │ across Blank)  -- 5
-    ∷ (Com R │ Com IR │ Tcm r-r │ Tcm r-Ir │ Tcm R-R │ Tcm R-IR │ Tcm R-IM │ Tcm IR-IM │ across Blank)  -- 6
-    ∷ (Push R │ Push IR │ Tm r-r │ Tm r-Ir │ Tm R-R │ Tm R-IR │ Tm R-IM │ Tm IR-IM │ across Blank)  -- 7
-    ∷ (Decw RR │ Decw IR │ Lde r-Irr │ Ldei Ir-Irr │ Blank ∷ Blank ∷ Blank ∷ Blank ∷ across (Of Di))  -- 8
-    ∷ (Rl R │ Rl IR │ Lde Irr-r │ Ldei Irr-Ir │ Blank ∷ Blank ∷ Blank ∷ Blank ∷ across (Of Ei))  -- 9
-    ∷ (Incw RR │ Incw IR │ Cp r-r │ Cp r-Ir │ Cp R-R │ Cp R-IR │ Cp R-IM │ Cp IR-IM │ across (Of Ret))  -- A
-    ∷ (Clr R │ Clr IR │ Xor r-r │ Xor r-Ir │ Xor R-R │ Xor R-IR │ Xor R-IM │ Xor IR-IM │ across (Of Iret))  -- B
-    ∷ (Rrc R │ Rrc IR │ Ldc r-Irr │ Ldci Ir-Irr │ Blank ∷ Blank ∷ Blank ∷ Ld r-X │ across (Of Rcf))  -- C
-    ∷ (Sra R │ Sra IR │ Ldc Irr-r │ Ldci Irr-Ir │ Call IRR │ Blank ∷ Call DA │ Ld X-r │ across (Of Scf))  -- D
-    ∷ (Rr R │ Rr IR │ Blank ∷ Ld r-Ir │ Ld R-R │ Ld R-IR │ Ld R-IM │ Ld IR-IM │ across (Of Ccf))  -- E
-    ∷ (Swap R │ Swap IR │ Blank ∷ Ld Ir-r │ Blank ∷ Ld IR-R │ Blank ∷ Blank ∷ across (Of Nop))  -- F
+    (Dec R │ Dec IR │ Add r-r │ Add r-Ir │ Add R-R │ Add R-IR │ Add R-IM │ Add IR-IM │ across None)  -- 0
+    ∷ (Rlc R │ Rlc IR │ Adc r-r │ Adc r-Ir │ Adc R-R │ Adc R-IR │ Adc R-IM │ Adc IR-IM │ across None)  -- 1
+    ∷ (Inc R │ Inc IR │ Sub r-r │ Sub r-Ir │ Sub R-R │ Sub R-IR │ Sub R-IM │ Sub IR-IM │ across None)  -- 2
+    ∷ (Jp IRR │ Srp │ Sbc r-r │ Sbc r-Ir │ Sbc R-R │ Sbc R-IR │ Sbc R-IM │ Sbc IR-IM │ across None)  -- 3
+    ∷ (Da R │ Da IR │ Or r-r │ Or r-Ir │ Or R-R │ Or R-IR │ Or R-IM │ Or IR-IM │ across None)  -- 4
+    ∷ (Pop R │ Pop IR │ And r-r │ And r-Ir │ And R-R │ And R-IR │ And R-IM │ And IR-IM │ across None)  -- 5
+    ∷ (Com R │ Com IR │ Tcm r-r │ Tcm r-Ir │ Tcm R-R │ Tcm R-IR │ Tcm R-IM │ Tcm IR-IM │ across None)  -- 6
+    ∷ (Push R │ Push IR │ Tm r-r │ Tm r-Ir │ Tm R-R │ Tm R-IR │ Tm R-IM │ Tm IR-IM │ across None)  -- 7
+    ∷ (Decw RR │ Decw IR │ Lde r-Irr │ Ldei Ir-Irr │ None ∷ None ∷ None ∷ None ∷ across (Some Di))  -- 8
+    ∷ (Rl R │ Rl IR │ Lde Irr-r │ Ldei Irr-Ir │ None ∷ None ∷ None ∷ None ∷ across (Some Ei))  -- 9
+    ∷ (Incw RR │ Incw IR │ Cp r-r │ Cp r-Ir │ Cp R-R │ Cp R-IR │ Cp R-IM │ Cp IR-IM │ across (Some Ret))  -- A
+    ∷ (Clr R │ Clr IR │ Xor r-r │ Xor r-Ir │ Xor R-R │ Xor R-IR │ Xor R-IM │ Xor IR-IM │ across (Some Iret))  -- B
+    ∷ (Rrc R │ Rrc IR │ Ldc r-Irr │ Ldci Ir-Irr │ None ∷ None ∷ None ∷ Ld r-X │ across (Some Rcf))  -- C
+    ∷ (Sra R │ Sra IR │ Ldc Irr-r │ Ldci Irr-Ir │ Call IRR │ None ∷ Call DA │ Ld X-r │ across (Some Scf))  -- D
+    ∷ (Rr R │ Rr IR │ None ∷ Ld r-Ir │ Ld R-R │ Ld R-IR │ Ld R-IM │ Ld IR-IM │ across (Some Ccf))  -- E
+    ∷ (Swap R │ Swap IR │ None ∷ Ld Ir-r │ None ∷ Ld IR-R │ None ∷ None ∷ across (Some Nop))  -- F
     ∷ []
 
 -- what the map has at an opcode
-unfoldable pub entry_of : ℕ → Entry
-entry_of op = get_or (get_or opcode_map (upper op) []) (lower op) Blank
+unfoldable pub entry_of : ℕ → Option Kind
+entry_of op = get_or (get_or opcode_map (upper op) []) (lower op) None

@@ -4,8 +4,10 @@ ghost use Rattle.word.specs.Choose.{pick};
 ghost use Rattle.opcodes.specs.Instruction.{length_of, decode_of, encode_of};
 
 use crate::{Decoded, Encoded};
+use numbers::Refusal;
 
 // An instruction's length, by the lower nibble; CALL @RR is the one exception, and is asked for in its own column alone.
+#[tactic(auto, using(crate::proofs::Cells::nibble), unfolding(crate::specs::Instruction::length_of))]
 pub fn length_of(op: u8) -> u8
     ensures { result ≡ length_of op }
 {
@@ -26,31 +28,41 @@ fn operand(n: u8, size: u8, b: u8) -> u8
 }
 
 // The instruction that begins at the first of three bytes of a program.
-pub fn decode(op: u8, a: u8, b: u8) -> Decoded
+#[tactic(auto, using(crate::proofs::Cells::decoded_where, crate::proofs::Cells::decoded_where_not))]
+pub fn decode(op: u8, a: u8, b: u8) -> Result<Decoded, Refusal>
     ensures { result ≡ decode_of op a b }
 {
-    let defined = crate::map::is_defined(op);
-    let n = length_of(op);
-    let first = operand(2, n, a);
-    let second = operand(3, n, b);
-    if defined {
-        Decoded::Instruction(op, first, second, n)
-    } else {
-        Decoded::Refused(numbers::REFUSED_OPCODE)
+    if !crate::map::is_defined(op) {
+        return Err(Refusal::Opcode);
     }
+    let size = length_of(op);
+    let first = operand(2, size, a);
+    let second = operand(3, size, b);
+    Ok(Decoded {
+        op,
+        first,
+        second,
+        size,
+    })
 }
 
 // An instruction's bytes.
-pub fn encode(op: u8, first: u8, second: u8) -> Encoded
+#[tactic(auto, unfolding(crate::specs::Instruction::encode_of))]
+pub fn encode(op: u8, first: u8, second: u8) -> Result<Encoded, Refusal>
     ensures { result ≡ encode_of op first second }
 {
     let defined = crate::map::is_defined(op);
-    let n = length_of(op);
-    let own_first = operand(2, n, first);
-    let own_second = operand(3, n, second);
-    if defined & ((own_first == first) & (own_second == second)) {
-        Encoded::Bytes(n, op, first, second)
+    let size = length_of(op);
+    let own_first = operand(2, size, first);
+    let own_second = operand(3, size, second);
+    if defined & (own_first == first) & (own_second == second) {
+        Ok(Encoded {
+            byte0: op,
+            byte1: first,
+            byte2: second,
+            size,
+        })
     } else {
-        Encoded::Refused(numbers::REFUSED_INSTRUCTION)
+        Err(Refusal::Instruction)
     }
 }

@@ -132,24 +132,20 @@ pub enum Kind {
     Srp,
 }
 
-// What the map has at an opcode.
+// An instruction: the opcode, its operand bytes (those it hasn't being zero) and its length.
 #[derive(Clone, Copy)]
-pub enum Entry {
-    Blank,
-    Of(Kind),
+pub struct Decoded {
+    pub op: u8,
+    pub first: u8,
+    pub second: u8,
+    pub size: u8,
 }
 
-// What three bytes of a program decode to: the opcode, its operand bytes (those it hasn't being zero) and its length; or
-// the refusal.
+// What an instruction is encoded to: three bytes, unused ones zero, and its length.
 #[derive(Clone, Copy)]
-pub enum Decoded {
-    Instruction(u8, u8, u8, u8),
-    Refused(u8),
-}
-
-// What an instruction is encoded to: its length and three bytes, unused ones zero; or the refusal.
-#[derive(Clone, Copy)]
-pub enum Encoded {
-    Bytes(u8, u8, u8, u8),
-    Refused(u8),
+pub struct Encoded {
+    pub byte0: u8,
+    pub byte1: u8,
+    pub byte2: u8,
+    pub size: u8,
 }

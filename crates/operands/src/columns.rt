@@ -3,33 +3,31 @@ ghost use Rattle.std.specs.Prelude.{◌≡◌};
 ghost use Rattle.word.specs.Fields.{lower};
 ghost use Rattle.word.specs.Words.{plus};
 ghost use Rattle.machine.specs.State.{with_pc};
-ghost use Rattle.lent.specs.View.{machine_in};
 ghost use Rattle.execute.specs.ForCode.{column_length};
 ghost use Rattle.operands.specs.ForCode.{column_at};
 
 use crate::Operands;
 use deeds::Code;
-use lent::Rest;
-use machine::{File, Pins};
+use machine::{Machine, Pins};
 
 // The machine n bytes further than pc.
-fn at(regs: &File, rest: &mut Rest, pc: u16, n: u16)
-    ensures { machine_in regs.now rest.new ≡ with_pc (machine_in regs.now rest.old) (plus pc n) }
+#[tactic(auto, unfolding(machine::specs::State::with_pc))]
+fn at(m: &mut Machine, pc: u16, n: u16)
+    ensures { m.new ≡ with_pc m.old (plus pc n) }
 {
-    let to = word::plus(pc, n);
-    lent::set_pc(regs, rest, to);
+    m.pc = word::plus(pc, n);
 }
 
 // What the opcode's column says; the machine is at the next instruction then.
-pub fn operands(regs: &File, rest: &mut Rest, pins: Pins, pc: u16, i: Code) -> Operands
-    ensures value { result ≡ column_at pins (machine_in regs.now rest.new) i }
-    ensures next { machine_in regs.now rest.new ≡ with_pc (machine_in regs.now rest.old) (plus pc (column_length (lower i.op))) }
+pub fn operands(m: &mut Machine, pins: Pins, pc: u16, i: Code) -> Operands
+    ensures value { result ≡ column_at pins m.new i }
+    ensures next { m.new ≡ with_pc m.old (plus pc (column_length (lower i.op))) }
 {
     let lo = i.op % 16;
     match lo {
         0 => {
-            at(regs, rest, pc, 2);
-            let dst = registers::addresses::register(regs, rest, i.first);
+            at(m, pc, 2);
+            let dst = registers::addresses::register(m, i.first);
             Operands {
                 dst,
                 src: 0,
@@ -37,8 +35,8 @@ pub fn operands(regs: &File, rest: &mut Rest, pins: Pins, pc: u16, i: Code) -> O
             }
         }
         1 => {
-            at(regs, rest, pc, 2);
-            let dst = registers::addresses::indirect(regs, rest, pins, i.first);
+            at(m, pc, 2);
+            let dst = registers::addresses::indirect(m, pins, i.first);
             Operands {
                 dst,
                 src: 0,
@@ -46,10 +44,10 @@ pub fn operands(regs: &File, rest: &mut Rest, pins: Pins, pc: u16, i: Code) -> O
             }
         }
         2 => {
-            at(regs, rest, pc, 2);
-            let dst = registers::addresses::working(regs, rest, i.first / 16);
-            let a = registers::addresses::working(regs, rest, i.first % 16);
-            let src = registers::read(regs, rest, pins, a);
+            at(m, pc, 2);
+            let dst = registers::addresses::working(m, i.first / 16);
+            let a = registers::addresses::working(m, i.first % 16);
+            let src = registers::read(m, pins, a);
             Operands {
                 dst,
                 src,
@@ -57,10 +55,10 @@ pub fn operands(regs: &File, rest: &mut Rest, pins: Pins, pc: u16, i: Code) -> O
             }
         }
         3 => {
-            at(regs, rest, pc, 2);
-            let dst = registers::addresses::working(regs, rest, i.first / 16);
-            let a = registers::addresses::working_indirect(regs, rest, pins, i.first % 16);
-            let src = registers::read(regs, rest, pins, a);
+            at(m, pc, 2);
+            let dst = registers::addresses::working(m, i.first / 16);
+            let a = registers::addresses::working_indirect(m, pins, i.first % 16);
+            let src = registers::read(m, pins, a);
             Operands {
                 dst,
                 src,
@@ -68,10 +66,10 @@ pub fn operands(regs: &File, rest: &mut Rest, pins: Pins, pc: u16, i: Code) -> O
             }
         }
         4 => {
-            at(regs, rest, pc, 3);
-            let dst = registers::addresses::register(regs, rest, i.second);
-            let a = registers::addresses::register(regs, rest, i.first);
-            let src = registers::read(regs, rest, pins, a);
+            at(m, pc, 3);
+            let dst = registers::addresses::register(m, i.second);
+            let a = registers::addresses::register(m, i.first);
+            let src = registers::read(m, pins, a);
             Operands {
                 dst,
                 src,
@@ -79,10 +77,10 @@ pub fn operands(regs: &File, rest: &mut Rest, pins: Pins, pc: u16, i: Code) -> O
             }
         }
         5 => {
-            at(regs, rest, pc, 3);
-            let dst = registers::addresses::register(regs, rest, i.second);
-            let a = registers::addresses::indirect(regs, rest, pins, i.first);
-            let src = registers::read(regs, rest, pins, a);
+            at(m, pc, 3);
+            let dst = registers::addresses::register(m, i.second);
+            let a = registers::addresses::indirect(m, pins, i.first);
+            let src = registers::read(m, pins, a);
             Operands {
                 dst,
                 src,
@@ -90,8 +88,8 @@ pub fn operands(regs: &File, rest: &mut Rest, pins: Pins, pc: u16, i: Code) -> O
             }
         }
         6 => {
-            at(regs, rest, pc, 3);
-            let dst = registers::addresses::register(regs, rest, i.first);
+            at(m, pc, 3);
+            let dst = registers::addresses::register(m, i.first);
             Operands {
                 dst,
                 src: i.second,
@@ -99,8 +97,8 @@ pub fn operands(regs: &File, rest: &mut Rest, pins: Pins, pc: u16, i: Code) -> O
             }
         }
         7 => {
-            at(regs, rest, pc, 3);
-            let dst = registers::addresses::indirect(regs, rest, pins, i.first);
+            at(m, pc, 3);
+            let dst = registers::addresses::indirect(m, pins, i.first);
             Operands {
                 dst,
                 src: i.second,
@@ -108,10 +106,10 @@ pub fn operands(regs: &File, rest: &mut Rest, pins: Pins, pc: u16, i: Code) -> O
             }
         }
         8 => {
-            at(regs, rest, pc, 2);
-            let dst = registers::addresses::working(regs, rest, i.op / 16);
-            let a = registers::addresses::register(regs, rest, i.first);
-            let src = registers::read(regs, rest, pins, a);
+            at(m, pc, 2);
+            let dst = registers::addresses::working(m, i.op / 16);
+            let a = registers::addresses::register(m, i.first);
+            let src = registers::read(m, pins, a);
             Operands {
                 dst,
                 src,
@@ -119,10 +117,10 @@ pub fn operands(regs: &File, rest: &mut Rest, pins: Pins, pc: u16, i: Code) -> O
             }
         }
         9 => {
-            at(regs, rest, pc, 2);
-            let dst = registers::addresses::register(regs, rest, i.first);
-            let a = registers::addresses::working(regs, rest, i.op / 16);
-            let src = registers::read(regs, rest, pins, a);
+            at(m, pc, 2);
+            let dst = registers::addresses::register(m, i.first);
+            let a = registers::addresses::working(m, i.op / 16);
+            let src = registers::read(m, pins, a);
             Operands {
                 dst,
                 src,
@@ -130,8 +128,8 @@ pub fn operands(regs: &File, rest: &mut Rest, pins: Pins, pc: u16, i: Code) -> O
             }
         }
         10 => {
-            at(regs, rest, pc, 2);
-            let dst = registers::addresses::working(regs, rest, i.op / 16);
+            at(m, pc, 2);
+            let dst = registers::addresses::working(m, i.op / 16);
             Operands {
                 dst,
                 src: i.first,
@@ -139,7 +137,7 @@ pub fn operands(regs: &File, rest: &mut Rest, pins: Pins, pc: u16, i: Code) -> O
             }
         }
         11 => {
-            at(regs, rest, pc, 2);
+            at(m, pc, 2);
             Operands {
                 dst: 0,
                 src: i.first,
@@ -147,8 +145,8 @@ pub fn operands(regs: &File, rest: &mut Rest, pins: Pins, pc: u16, i: Code) -> O
             }
         }
         12 => {
-            at(regs, rest, pc, 2);
-            let dst = registers::addresses::working(regs, rest, i.op / 16);
+            at(m, pc, 2);
+            let dst = registers::addresses::working(m, i.op / 16);
             Operands {
                 dst,
                 src: i.first,
@@ -156,7 +154,7 @@ pub fn operands(regs: &File, rest: &mut Rest, pins: Pins, pc: u16, i: Code) -> O
             }
         }
         13 => {
-            at(regs, rest, pc, 3);
+            at(m, pc, 3);
             Operands {
                 dst: 0,
                 src: 0,
@@ -164,8 +162,8 @@ pub fn operands(regs: &File, rest: &mut Rest, pins: Pins, pc: u16, i: Code) -> O
             }
         }
         14 => {
-            at(regs, rest, pc, 1);
-            let dst = registers::addresses::working(regs, rest, i.op / 16);
+            at(m, pc, 1);
+            let dst = registers::addresses::working(m, i.op / 16);
             Operands {
                 dst,
                 src: 0,
@@ -173,7 +171,7 @@ pub fn operands(regs: &File, rest: &mut Rest, pins: Pins, pc: u16, i: Code) -> O
             }
         }
         _ => {
-            at(regs, rest, pc, 1);
+            at(m, pc, 1);
             Operands {
                 dst: 0,
                 src: 0,

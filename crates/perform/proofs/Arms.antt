@@ -1,4 +1,5 @@
 -- Columns 8 to F: a law for each sort of arm; and what `perform` hands on.
+use Rattle.std.specs.Prelude.{None}
 use Rattle.std.proofs.Common.{◌≡◌, ℕ, ◌+◌, ◌*◌, ◌%◌, ◌<◌, ◌≤◌, Bool, false, not, eqb, List, get_or, refl, ap, ◌∙◌, arith}
 use Rattle.word.specs.Fields.{upper, lower, word_of}
 use Rattle.word.specs.Words.{plus, disp_of, moved_by}
@@ -7,7 +8,6 @@ use Rattle.alu.specs.FlagByte.{rcf_of, scf_of, ccf_of}
 use Rattle.opcodes.specs.Map.{entry_of, opcode_map}
 use Rattle.opcodes.specs.Instruction.{length_of, defined}
 use Rattle.opcodes.specs.ForCode.{two_cost, jump_cost}
-use Rattle.opcodes.specs.declared.Entry.TheVariants.{Blank}
 use Rattle.opcodes.specs.declared.Kind.{Kind}
 use Rattle.opcodes.specs.declared.Kind.TheVariants.{Unary, Ccf, Di, Djnz, Ei, Iret, Jp, Jr, Ld, Nop, Rcf, Ret, Scf}
 use Rattle.opcodes.specs.declared.Unary.TheVariants.{Inc}
@@ -119,7 +119,7 @@ module _ {p : Pins} {n : Machine} {pc : ℕ} {i : Code} {o : Operands} (image me
   nop_arm m u = alone_is 15 Nop m u refl
 
 -- and where it is blank
-pub alone_blank : (op : ℕ) → op < 256 → lower op ≡ 15 → NoneOf (upper op) (fails (λ hi. not (defined (entry_of (hi * 16 + 15)))) 16) → Blank ≡ entry_of op
+pub alone_blank : (op : ℕ) → op < 256 → lower op ≡ 15 → NoneOf (upper op) (fails (λ hi. not (defined (entry_of (hi * 16 + 15)))) 16) → None ≡ entry_of op
 alone_blank op h l d =
     let w : upper op * 16 + 15 ≡ op = omega arith in
     blank_is (entry_of op) (rw w at (else_passes (λ hi. not (defined (entry_of (hi * 16 + 15)))) 16 (upper op) (omega arith) d))

@@ -1,12 +1,12 @@
 -- The instruction at the program counter, and how its refusal shows in its cycles.
+use Rattle.std.specs.Prelude.{Option, Some, None}
 use Rattle.std.proofs.Common.{◌≡◌, ℕ, ◌<◌, Bool, true, false, not, eqb, List, refl}
 use Rattle.word.specs.Choose.{pick}
 use Rattle.word.proofs.Computed.{agree}
 use Rattle.opcodes.specs.Map.{entry_of, opcode_map}
 use Rattle.opcodes.specs.Cycles.{cycles_of, cycle_map}
 use Rattle.opcodes.specs.Instruction.{defined}
-use Rattle.opcodes.specs.declared.Entry.{Entry}
-use Rattle.opcodes.specs.declared.Entry.TheVariants.{Blank, Of}
+use Rattle.opcodes.specs.declared.Kind.{Kind}
 use Rattle.machine.specs.State.{with_pc}
 use Rattle.machine.specs.declared.Machine.{Machine}
 use Rattle.machine.specs.declared.Pins.{Pins}
@@ -26,9 +26,9 @@ some_cycles true op h = agree (λ x. eqb (cycles_of x true) 0) (λ x. not (defin
 some_cycles false op h = agree (λ x. eqb (cycles_of x false) 0) (λ x. not (defined (entry_of x))) 256 refl op h
 
 -- so 0 cycles are refusal 5
-pub refusal_by_cycles : (p : Pins) (image mem : List ℕ) (m : Machine) (e : Entry) (i : Code) → e ≡ entry_of i.op → i.op < 256
+pub refusal_by_cycles : (p : Pins) (image mem : List ℕ) (m : Machine) (e : Option Kind) (i : Code) → e ≡ entry_of i.op → i.op < 256
     → (execute_as p image mem m e i).refusal ≡ pick (eqb (execute_as p image mem m e i).cycles 0) 5 0
 unfolding execute_as perform_of
-refusal_by_cycles p image mem m Blank i e h = refl
-refusal_by_cycles p image mem m (Of k) i e h =
+refusal_by_cycles p image mem m None i e h = refl
+refusal_by_cycles p image mem m (Some k) i e h =
     rw (some_cycles (outcome_of (next_of m i) (deed_of p image mem (next_of m i) k i)) i.op h, ← e)

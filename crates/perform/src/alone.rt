@@ -1,64 +1,55 @@
 // Column F of the map: instructions of one byte, without operands.
-ghost use Rattle.std.specs.Prelude.{◌≡◌};
-ghost use Rattle.lent.specs.View.{machine_in};
-ghost use Rattle.execute.specs.ForCode.{performed, instruction_at};
+ghost use Rattle.std.specs.Prelude.{◌≡◌, List, ℕ};
+ghost use Rattle.execute.specs.ForCode.{left_with, instruction_at};
 ghost use Rattle.operands.specs.ForCode.{At};
 
 use deeds::Code;
-use lent::Rest;
-use machine::{File, Pins, names};
+use execute::doing;
+use machine::{Machine, Pins, names};
+use numbers::Refusal;
 use operands::Operands;
 
 pub fn alone(
-    regs: &mut File,
-    rest: &mut Rest,
+    m: &mut Machine,
     pins: Pins,
     mem: &[u8],
-    image: &[u8],
     pc: u16,
     i: Code,
     o: Operands,
-) -> u32
-    requires { At 15 16 pins (machine_in regs.old rest.old) pc i o }
-    ensures { performed (machine_in regs.new rest.new) mem.now result ≡ instruction_at pins image.now mem.now (machine_in regs.old rest.old) pc i }
+) -> Result<u32, Refusal>
+    requires { At 15 16 pins m.old pc i o }
+    ensures { (image : List ℕ) → left_with m.new mem.now result ≡ instruction_at pins image mem.now m.old pc i }
 {
-    let row = i.op / 16;
-    match row {
+    match i.op / 16 {
         8 => {
-            execute::doing::interrupts(regs, rest, false);
-            6
+            doing::interrupts(m, false);
+            Ok(6)
         }
         9 => {
-            execute::doing::enable_interrupts(regs, rest);
-            6
+            doing::enable_interrupts(m);
+            Ok(6)
         }
         10 => {
-            crate::returns::ret(regs, rest, pins, mem);
-            14
+            crate::returns::ret(m, pins, mem);
+            Ok(14)
         }
         11 => {
-            crate::returns::iret(regs, rest, pins, mem);
-            16
+            crate::returns::iret(m, pins, mem);
+            Ok(16)
         }
         12 => {
-            let f = execute::doing::flags(regs, rest);
-            let v = alu::rcf(f);
-            registers::write(regs, rest, names::FLAGS, v);
-            6
+            registers::write(m, names::FLAGS, alu::rcf(doing::flags(m)));
+            Ok(6)
         }
         13 => {
-            let f = execute::doing::flags(regs, rest);
-            let v = alu::scf(f);
-            registers::write(regs, rest, names::FLAGS, v);
-            6
+            registers::write(m, names::FLAGS, alu::scf(doing::flags(m)));
+            Ok(6)
         }
         14 => {
-            let f = execute::doing::flags(regs, rest);
-            let v = alu::ccf(f);
-            registers::write(regs, rest, names::FLAGS, v);
-            6
+            registers::write(m, names::FLAGS, alu::ccf(doing::flags(m)));
+            Ok(6)
         }
-        15 => 6,
-        _ => execute::doing::refused(regs, rest, pc),
+        15 => Ok(6),
+        _ => doing::refused(m, pc),
     }
 }

@@ -6,67 +6,65 @@ mod jumps;
 mod returns;
 
 ghost use Rattle.std.specs.Prelude.{◌≡◌};
-ghost use Rattle.lent.specs.View.{machine_in};
 ghost use Rattle.execute.specs.Execute.{execute_of};
-ghost use Rattle.execute.specs.ForCode.{performed, performed_by, instruction_at};
+ghost use Rattle.execute.specs.ForCode.{left_with, performed_by, instruction_at};
 
 use deeds::Code;
-use lent::Rest;
-use machine::{File, Pins};
+use execute::doing;
+use machine::{Machine, Pins};
+use numbers::Refusal;
 
-// The instruction i, which stands at pc.
+// The instruction i, which stands at pc. (Pins, data memory and image go side by side: lent by one struct, each clause would name them
+// through it, and be no plainer.)
 pub fn perform(
-    regs: &mut File,
-    rest: &mut Rest,
+    m: &mut Machine,
     pins: Pins,
     mem: &mut [u8],
     image: &[u8],
     pc: u16,
     i: Code,
-) -> u32
-    ensures { performed (machine_in regs.new rest.new) mem.new result ≡ instruction_at pins image.now mem.old (machine_in regs.old rest.old) pc i }
+) -> Result<u32, Refusal>
+    ensures { left_with m.new mem.new result ≡ instruction_at pins image.now mem.old m.old pc i }
 {
-    let o = operands::columns::operands(regs, rest, pins, pc, i);
-    let lo = i.op % 16;
-    match lo {
-        0 | 1 => one_operand::one(regs, rest, pins, mem, image, pc, i, o),
-        2 | 3 | 4 | 5 | 6 | 7 => two_operands::two(regs, rest, pins, mem, image, pc, i, o),
+    let o = operands::columns::operands(m, pins, pc, i);
+    match i.op % 16 {
+        0..=1 => one_operand::one(m, pins, mem, pc, i, o),
+        2..=7 => two_operands::two(m, pins, mem, image, pc, i, o),
+        // three arms, as three columns load: a proof of each goes by its own column
         8 => {
-            registers::write(regs, rest, o.dst, o.src);
-            6
+            registers::write(m, o.dst, o.src);
+            Ok(6)
         }
         9 => {
-            registers::write(regs, rest, o.dst, o.src);
-            6
+            registers::write(m, o.dst, o.src);
+            Ok(6)
         }
-        10 => jumps::djnz(regs, rest, pins, mem, image, pc, i, o),
-        11 => jumps::jr(regs, rest, pins, mem, image, pc, i, o),
+        10 => Ok(jumps::djnz(m, pins, pc, i, o)),
+        11 => Ok(jumps::jr(m, pins, pc, i, o)),
         12 => {
-            registers::write(regs, rest, o.dst, o.src);
-            6
+            registers::write(m, o.dst, o.src);
+            Ok(6)
         }
-        13 => jumps::jp(regs, rest, pins, mem, image, pc, i, o),
+        13 => Ok(jumps::jp(m, pins, pc, i, o)),
         14 => {
-            let was = registers::read(regs, rest, pins, o.dst);
-            let r = alu::arithmetic::inc(was);
-            execute::doing::store(regs, rest, o.dst, r);
-            6
+            let was = registers::read(m, pins, o.dst);
+            doing::store(m, o.dst, alu::arithmetic::inc(was));
+            Ok(6)
         }
-        _ => alone::alone(regs, rest, pins, mem, image, pc, i, o),
+        _ => alone::alone(m, pins, mem, pc, i, o),
     }
 }
 
 // The instruction at the program counter.
+#[tactic(auto, using(crate::proofs::Theorems::here_is))]
 pub fn execute_here(
-    regs: &mut File,
-    rest: &mut Rest,
+    m: &mut Machine,
     pins: Pins,
     mem: &mut [u8],
     image: &[u8],
-) -> u32
-    ensures { performed (machine_in regs.new rest.new) mem.new result ≡ performed_by (machine_in regs.old rest.old) mem.old (execute_of pins image.now mem.old (machine_in regs.old rest.old)) }
+) -> Result<u32, Refusal>
+    ensures { left_with m.new mem.new result ≡ performed_by m.old mem.old (execute_of pins image.now mem.old m.old) }
 {
-    let pc = lent::pc(rest);
-    let i = execute::fetch(image, pc);
-    perform(regs, rest, pins, mem, image, pc, i)
+    let pc = m.pc;
+    perform(m, pins, mem, image, pc, execute::fetch(image, pc))
 }

@@ -1,31 +1,31 @@
 // RET and IRET, which "read, write SP, then load the destination" (01).
 ghost use Rattle.std.specs.Prelude.{◌≡◌};
-ghost use Rattle.lent.specs.View.{machine_in};
 ghost use Rattle.deeds.specs.Pages.{ret_deed, iret_deed};
 ghost use Rattle.execute.specs.Doing.{done_of};
 
-use lent::Rest;
-use machine::{File, Pins, names};
+use execute::doing;
+use machine::{Machine, Pins, names};
+use registers::stack;
 
-pub fn ret(regs: &mut File, rest: &mut Rest, pins: Pins, mem: &[u8])
-    ensures { machine_in regs.new rest.new ≡ (done_of pins (machine_in regs.old rest.old) (ret_deed pins mem.now (machine_in regs.old rest.old))).machine }
+#[tactic(auto, unfolding(execute::specs::Doing::done_of, deeds::specs::Pages::ret_deed, execute::specs::Doing::returned, machine::specs::State::with_pc))]
+pub fn ret(m: &mut Machine, pins: Pins, mem: &[u8])
+    ensures { m.new ≡ (done_of pins m.old (ret_deed pins mem.now m.old)).machine }
 {
-    let hi = registers::stack::byte_at(regs, rest, pins, mem, 0);
-    let lo = registers::stack::byte_at(regs, rest, pins, mem, 1);
-    let to = word::word(hi, lo);
-    registers::stack::raise(regs, rest, 2);
-    lent::set_pc(regs, rest, to);
+    let hi = stack::byte_at(m, pins, mem, 0);
+    let lo = stack::byte_at(m, pins, mem, 1);
+    stack::raise(m, 2);
+    m.pc = word::word(hi, lo);
 }
 
-pub fn iret(regs: &mut File, rest: &mut Rest, pins: Pins, mem: &[u8])
-    ensures { machine_in regs.new rest.new ≡ (done_of pins (machine_in regs.old rest.old) (iret_deed pins mem.now (machine_in regs.old rest.old))).machine }
+#[tactic(auto, unfolding(execute::specs::Doing::done_of, deeds::specs::Pages::iret_deed, execute::specs::Doing::interrupt_returned, machine::specs::State::with_pc))]
+pub fn iret(m: &mut Machine, pins: Pins, mem: &[u8])
+    ensures { m.new ≡ (done_of pins m.old (iret_deed pins mem.now m.old)).machine }
 {
-    let flags = registers::stack::byte_at(regs, rest, pins, mem, 0);
-    let hi = registers::stack::byte_at(regs, rest, pins, mem, 1);
-    let lo = registers::stack::byte_at(regs, rest, pins, mem, 2);
-    let to = word::word(hi, lo);
-    registers::stack::raise(regs, rest, 3);
-    machine::file::place(regs, names::FLAGS, flags);
-    lent::set_pc(regs, rest, to);
-    execute::doing::interrupts(regs, rest, true);
+    let flags = stack::byte_at(m, pins, mem, 0);
+    let hi = stack::byte_at(m, pins, mem, 1);
+    let lo = stack::byte_at(m, pins, mem, 2);
+    stack::raise(m, 3);
+    m.place(names::FLAGS, flags);
+    m.pc = word::word(hi, lo);
+    doing::interrupts(m, true);
 }

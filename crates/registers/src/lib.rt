@@ -8,84 +8,85 @@ ghost use Rattle.std.specs.Prelude.{◌≡◌};
 ghost use Rattle.word.specs.Fields.{low_byte};
 ghost use Rattle.machine.specs.Serial.{read_sio, write_sio};
 ghost use Rattle.machine.specs.Registers.{read_port, write_port, read_hole, write_hole, write_irq, read_reg, write_reg};
+ghost use Rattle.machine.specs.Names.{P01M, P2M};
+ghost use Rattle.machine.specs.State.{held};
+ghost use Rattle.machine.specs.Ports.{directions_of};
 ghost use Rattle.machine.specs.ForCode.{is_general};
-ghost use Rattle.lent.specs.View.{machine_in};
 
-use lent::Rest;
-use machine::{File, Pins, names};
+use machine::ports::Directions;
+use machine::{Machine, Pins, names};
 use timers::Timer;
 
-fn read_port(regs: &File, rest: &Rest, pins: Pins, a: u8) -> u8
-    ensures { result ≡ read_port pins (machine_in regs.now rest.now) a }
+// The directions of port a, by P01M and P2M as they stand.
+fn directions(m: &Machine, a: u8) -> Directions
+    ensures { result ≡ directions_of (held m.now P01M) (held m.now P2M) a }
 {
-    let p01m = machine::file::held(regs, names::P01M);
-    let p2m = machine::file::held(regs, names::P2M);
-    let latch = machine::file::held(regs, a);
-    let d = machine::ports::directions_of(p01m, p2m, a);
-    let pin = machine::ports::pins_of(pins, a);
-    machine::ports::reads(d, pin, latch)
+    machine::ports::directions_of(m.held(names::P01M), m.held(names::P2M), a)
 }
 
-fn write_port(regs: &mut File, rest: &Rest, a: u8, v: u8)
-    ensures { machine_in regs.new rest.now ≡ write_port (machine_in regs.old rest.now) a v }
+#[tactic(auto, unfolding(machine::specs::Registers::read_port))]
+fn read_port(m: &Machine, pins: Pins, a: u8) -> u8
+    ensures { result ≡ read_port pins m.now a }
 {
-    let p01m = machine::file::held(regs, names::P01M);
-    let p2m = machine::file::held(regs, names::P2M);
-    let latch = machine::file::held(regs, a);
-    let d = machine::ports::directions_of(p01m, p2m, a);
-    let after = machine::ports::stores(d, latch, v);
-    machine::file::place(regs, a, after);
+    let pin = machine::ports::pins_of(pins, a);
+    machine::ports::reads(directions(m, a), pin, m.held(a))
+}
+
+#[tactic(auto, unfolding(machine::specs::Registers::write_port))]
+fn write_port(m: &mut Machine, a: u8, v: u8)
+    ensures { m.new ≡ write_port m.old a v }
+{
+    let after = machine::ports::stores(directions(m, a), m.held(a), v);
+    m.place(a, after);
 }
 
 // What F0 reads: the byte received last, while the serial port is on.
-fn read_sio(regs: &File, rest: &Rest) -> u8
-    ensures { result ≡ read_sio (machine_in regs.now rest.now) }
+#[tactic(auto, unfolding(machine::specs::Serial::read_sio))]
+fn read_sio(m: &Machine) -> u8
+    ensures { result ≡ read_sio m.now }
 {
-    let mode = clock::port_mode(regs, rest);
-    let received = lent::received(rest);
-    if mode.on { received } else { 0xFF }
-}
-
-// A store to F0: a send begins, while the serial port is on.
-fn write_sio(regs: &File, rest: &mut Rest, v: u8)
-    ensures { machine_in regs.now rest.new ≡ write_sio (machine_in regs.now rest.old) v }
-{
-    let mode = clock::port_mode(regs, rest);
-    let sends = mode.on;
-    if sends {
-        let transmitter = serial::sending::store(mode.parity, v);
-        lent::set_transmitter(regs, rest, transmitter);
-    }
-}
-
-// What 80 to F0 read. The match in `read_any` and `write_any` goes by ranges and few single addresses, which the compiler tests one after
-// the other and so keeps what TMR needs out of the other ways: F0 is told from the holes here.
-fn read_hole(regs: &File, rest: &Rest, a: u8) -> u8
-    ensures { result ≡ read_hole (machine_in regs.now rest.now) a }
-{
-    if a == names::SIO {
-        read_sio(regs, rest)
+    if clock::port_mode(m).on {
+        m.port.receiver.received
     } else {
         0xFF
     }
 }
 
+// A store to F0: a send begins, while the serial port is on.
+#[tactic(auto, unfolding(machine::specs::Serial::write_sio, machine::specs::State::with_transmitter, machine::specs::State::with_port))]
+fn write_sio(m: &mut Machine, v: u8)
+    ensures { m.new ≡ write_sio m.old v }
+{
+    let mode = clock::port_mode(m);
+    if mode.on {
+        m.port.transmitter = serial::Transmitter::store(mode.parity, v);
+    }
+}
+
+// What 80 to F0 read. The match in `read_any` and `write_any` goes by ranges and few single addresses, which the compiler tests one after
+// the other and so keeps what TMR needs out of the other ways: F0 is told from the holes here.
+fn read_hole(m: &Machine, a: u8) -> u8
+    ensures { result ≡ read_hole m.now a }
+{
+    if a == names::SIO { read_sio(m) } else { 0xFF }
+}
+
 // What a store to them does.
-fn write_hole(regs: &File, rest: &mut Rest, a: u8, v: u8)
-    ensures { machine_in regs.now rest.new ≡ write_hole (machine_in regs.now rest.old) a v }
+fn write_hole(m: &mut Machine, a: u8, v: u8)
+    ensures { m.new ≡ write_hole m.old a v }
 {
     if a == names::SIO {
-        write_sio(regs, rest, v);
+        write_sio(m, v);
     }
 }
 
 // A store to FA, which is dropped until an EI has been executed.
-fn write_irq(regs: &mut File, rest: &Rest, v: u8)
-    ensures { machine_in regs.new rest.now ≡ write_irq (machine_in regs.old rest.now) v }
+#[tactic(auto, unfolding(machine::specs::Registers::write_irq))]
+fn write_irq(m: &mut Machine, v: u8)
+    ensures { m.new ≡ write_irq m.old v }
 {
-    let released = lent::released(rest);
-    if released {
-        machine::file::place(regs, names::IRQ, v % 64);
+    if m.released {
+        m.place(names::IRQ, v % 64);
     }
 }
 
@@ -104,66 +105,67 @@ fn counter(t: Timer) -> u8
 }
 
 // What register a reads, whichever it is.
-pub fn read_any(regs: &File, rest: &Rest, pins: Pins, a: u8) -> u8
-    ensures { result ≡ read_reg pins (machine_in regs.now rest.now) a }
+pub fn read_any(m: &Machine, pins: Pins, a: u8) -> u8
+    ensures { result ≡ read_reg pins m.now a }
 {
     match a {
-        0x00..=0x03 => read_port(regs, rest, pins, a),
-        0x80..=names::SIO => read_hole(regs, rest, a),
-        names::T1 => counter(lent::t1(rest)),
+        0x00..=0x03 => read_port(m, pins, a),
+        0x80..=names::SIO => read_hole(m, a),
+        names::T1 => counter(m.t1),
         names::PRE1 => 0xFF,
-        names::T0 => counter(lent::t0(rest)),
+        names::T0 => counter(m.t0),
         names::PRE0..=names::IPR => 0xFF,
-        names::IMR => machine::file::held(regs, a) & 0xBF,
-        _ => machine::file::held(regs, a),
+        names::IMR => m.held(a) & 0xBF,
+        _ => m.held(a),
     }
 }
 
-// What register a reads.
-pub fn read(regs: &File, rest: &Rest, pins: Pins, a: u8) -> u8
-    ensures { result ≡ read_reg pins (machine_in regs.now rest.now) a }
+// What register a reads. (It could be `read_any` alone, and `write` likewise, but for docs/SPEED.md's bars: docs/PROVING.md, "What it runs
+// at".)
+#[tactic(auto, using(machine::proofs::Ranges::general_range, machine::proofs::Ranges::general_reads))]
+pub fn read(m: &Machine, pins: Pins, a: u8) -> u8
+    ensures { result ≡ read_reg pins m.now a }
 {
-    let general = is_general(a);
-    if general {
-        return machine::file::held(regs, a);
+    if is_general(a) {
+        return m.held(a);
     }
-    read_any(regs, rest, pins, a)
+    read_any(m, pins, a)
 }
 
 // A store of v to register a, whichever it is.
-pub fn write_any(regs: &mut File, rest: &mut Rest, a: u8, v: u8)
-    ensures { machine_in regs.new rest.new ≡ write_reg (machine_in regs.old rest.old) a v }
+pub fn write_any(m: &mut Machine, a: u8, v: u8)
+    ensures { m.new ≡ write_reg m.old a v }
 {
     match a {
         0x00..=0x03 => {
-            write_port(regs, rest, a, v);
+            write_port(m, a, v);
         }
         0x80..=names::SIO => {
-            write_hole(regs, rest, a, v);
+            write_hole(m, a, v);
         }
         names::TMR => {
-            clock::write_tmr(regs, rest, v);
+            clock::write_tmr(m, v);
         }
         names::IRQ => {
-            write_irq(regs, rest, v);
+            write_irq(m, v);
         }
         names::RP => {
-            machine::file::place(regs, a, v / 16 * 16);
+            m.place(a, v / 16 * 16);
         }
         _ => {
-            machine::file::place(regs, a, v);
+            m.place(a, v);
         }
     }
 }
 
 // A store of v to register a.
-pub fn write(regs: &mut File, rest: &mut Rest, a: u8, v: u8)
-    ensures { machine_in regs.new rest.new ≡ write_reg (machine_in regs.old rest.old) a v }
+#[tactic(auto, using(machine::proofs::Ranges::general_range, machine::proofs::Ranges::general_stores))]
+pub fn write(m: &mut Machine, a: u8, v: u8)
+    ensures { m.new ≡ write_reg m.old a v }
 {
-    let general = is_general(a);
-    if general {
-        machine::file::place(regs, a, v);
+    if is_general(a) {
+        m.place(a, v);
         return;
     }
-    write_any(regs, rest, a, v);
+    write_any(m, a, v);
 }

@@ -2,34 +2,30 @@
 ghost use Rattle.std.specs.Prelude.{◌≡◌, ◌<◌, ◌≤◌, length};
 ghost use Rattle.machine.specs.Memory.{list_of};
 ghost use Rattle.machine.specs.Stack.{is_internal, sp_of, sp_set, written_from, pushed_internal, pushed_external, pushed, stack_byte, raised};
-ghost use Rattle.lent.specs.View.{core_in, machine_in, left, stacked};
+ghost use Rattle.machine.specs.ForCode.{left, stacked};
 
-use lent::Rest;
-use machine::{Bytes, File, Pins, names};
+use machine::{Bytes, Machine, Pins, names};
 
 // Whether the stack is internal.
-pub fn is_internal(regs: &File, rest: &Rest) -> bool
-    ensures { result ≡ is_internal (machine_in regs.now rest.now) }
+pub fn is_internal(m: &Machine) -> bool
+    ensures { result ≡ is_internal m.now }
 {
-    let p01m = machine::file::held(regs, names::P01M);
-    word::is_set(2, p01m)
+    word::is_set(2, m.held(names::P01M))
 }
 
-fn sp_of(regs: &File, rest: &Rest) -> u16
-    ensures { result ≡ sp_of (machine_in regs.now rest.now) }
+#[tactic(auto, unfolding(machine::specs::Stack::sp_of))]
+fn sp_of(m: &Machine) -> u16
+    ensures { result ≡ sp_of m.now }
 {
-    let hi = machine::file::held(regs, names::SPH);
-    let lo = machine::file::held(regs, names::SPL);
-    word::word(hi, lo)
+    word::word(m.held(names::SPH), m.held(names::SPL))
 }
 
-fn set_sp(regs: &mut File, rest: &Rest, sp: u16)
-    ensures { machine_in regs.new rest.now ≡ sp_set (machine_in regs.old rest.now) sp }
+#[tactic(auto, unfolding(machine::specs::Stack::sp_set))]
+fn set_sp(m: &mut Machine, sp: u16)
+    ensures { m.new ≡ sp_set m.old sp }
 {
-    let hi = word::high_byte(sp);
-    let lo = word::low_byte(sp);
-    machine::file::place(regs, names::SPH, hi);
-    machine::file::place(regs, names::SPL, lo);
+    m.place(names::SPH, word::high_byte(sp));
+    m.place(names::SPL, word::low_byte(sp));
 }
 
 fn count_of(b: Bytes) -> u8
@@ -42,90 +38,82 @@ fn count_of(b: Bytes) -> u8
     }
 }
 
-// Bytes stored to registers upward from a.
-fn write_from(regs: &mut File, rest: &mut Rest, a: u8, b: Bytes)
-    ensures { machine_in regs.new rest.new ≡ written_from (machine_in regs.old rest.old) a (list_of b) }
+// Bytes stored to registers upward from a, as `store_bytes` of machine stores to data memory.
+fn write_from(m: &mut Machine, a: u8, b: Bytes)
+    ensures { m.new ≡ written_from m.old a (list_of b) }
 {
-    let next = std::num::wrapping_add_u8(a, 1);
-    let last = std::num::wrapping_add_u8(next, 1);
+    let next = a.wrapping_add(1);
+    let last = next.wrapping_add(1);
     match b {
         Bytes::One(x) => {
-            crate::write(regs, rest, a, x);
+            crate::write(m, a, x);
         }
         Bytes::Two(x, y) => {
-            crate::write(regs, rest, a, x);
-            crate::write(regs, rest, next, y);
+            crate::write(m, a, x);
+            crate::write(m, next, y);
         }
         Bytes::Three(x, y, z) => {
-            crate::write(regs, rest, a, x);
-            crate::write(regs, rest, next, y);
-            crate::write(regs, rest, last, z);
+            crate::write(m, a, x);
+            crate::write(m, next, y);
+            crate::write(m, last, z);
         }
     }
 }
 
-fn push_internal(regs: &mut File, rest: &mut Rest, b: Bytes)
-    ensures { machine_in regs.new rest.new ≡ (pushed_internal (machine_in regs.old rest.old) b).machine }
+#[tactic(auto, unfolding(machine::specs::Stack::pushed_internal))]
+fn push_internal(m: &mut Machine, b: Bytes)
+    ensures { m.new ≡ (pushed_internal m.old b).machine }
 {
     let n = count_of(b);
     let down = (256 - n as u16) as u8;
-    let spl = machine::file::held(regs, names::SPL);
-    let sp = std::num::wrapping_add_u8(spl, down);
-    machine::file::place(regs, names::SPL, sp);
-    write_from(regs, rest, sp, b);
+    let sp = m.held(names::SPL).wrapping_add(down);
+    m.place(names::SPL, sp);
+    write_from(m, sp, b);
 }
 
-fn push_external(regs: &mut File, rest: &Rest, mem: &mut [u8], b: Bytes)
-    ensures { left (machine_in regs.new rest.now) mem.new ≡ stacked (core_in rest.now).kind mem.old (pushed_external (machine_in regs.old rest.now) b) }
+#[tactic(auto, unfolding(machine::specs::Stack::pushed_external, machine::specs::Stack::sp_set, machine::specs::State::placed, machine::specs::Memory::stored_in))]
+fn push_external(m: &mut Machine, mem: &mut [u8], b: Bytes)
+    ensures { left m.new mem.new ≡ stacked m.old.kind mem.old (pushed_external m.old b) }
 {
     let n = count_of(b);
     let down = (65536 - n as u32) as u16;
-    let old = sp_of(regs, rest);
-    let sp = word::plus(old, down);
-    let kind = lent::kind(rest);
-    set_sp(regs, rest, sp);
-    machine::memory::store_bytes(kind, mem, sp, b);
+    let sp = word::plus(sp_of(m), down);
+    set_sp(m, sp);
+    machine::memory::store_bytes(m.kind, mem, sp, b);
 }
 
 // Bytes pushed, in address order.
-pub fn push(regs: &mut File, rest: &mut Rest, mem: &mut [u8], b: Bytes)
-    ensures { left (machine_in regs.new rest.new) mem.new ≡ stacked (core_in rest.old).kind mem.old (pushed (machine_in regs.old rest.old) b) }
+#[tactic(auto, unfolding(machine::specs::Stack::pushed, machine::specs::Stack::pushed_internal, machine::specs::Memory::stored_in))]
+pub fn push(m: &mut Machine, mem: &mut [u8], b: Bytes)
+    ensures { left m.new mem.new ≡ stacked m.old.kind mem.old (pushed m.old b) }
 {
-    let internal = is_internal(regs, rest);
-    if internal {
-        push_internal(regs, rest, b);
+    if is_internal(m) {
+        push_internal(m, b);
     } else {
-        push_external(regs, rest, mem, b);
+        push_external(m, mem, b);
     }
 }
 
 // The byte i above the top of the stack.
-pub fn byte_at(regs: &File, rest: &Rest, pins: Pins, mem: &[u8], i: u8) -> u8
-    ensures { result ≡ stack_byte pins (machine_in regs.now rest.now) mem.now i }
+#[tactic(auto, unfolding(machine::specs::Stack::stack_byte))]
+pub fn byte_at(m: &Machine, pins: Pins, mem: &[u8], i: u8) -> u8
+    ensures { result ≡ stack_byte pins m.now mem.now i }
 {
-    let internal = is_internal(regs, rest);
-    if internal {
-        let spl = machine::file::held(regs, names::SPL);
-        let a = std::num::wrapping_add_u8(spl, i);
-        return crate::read(regs, rest, pins, a);
+    if is_internal(m) {
+        return crate::read(m, pins, m.held(names::SPL).wrapping_add(i));
     }
-    let sp = sp_of(regs, rest);
-    let a = word::plus(sp, i as u16);
-    lent::memory::load(rest, mem, a)
+    let a = word::plus(sp_of(m), i as u16);
+    machine::memory::load(m.kind, mem, a)
 }
 
 // SP after n bytes are popped.
-pub fn raise(regs: &mut File, rest: &Rest, n: u8)
-    ensures { machine_in regs.new rest.now ≡ raised (machine_in regs.old rest.now) n }
+#[tactic(auto, unfolding(machine::specs::Stack::raised))]
+pub fn raise(m: &mut Machine, n: u8)
+    ensures { m.new ≡ raised m.old n }
 {
-    let internal = is_internal(regs, rest);
-    if internal {
-        let spl = machine::file::held(regs, names::SPL);
-        let sp = std::num::wrapping_add_u8(spl, n);
-        machine::file::place(regs, names::SPL, sp);
-        return;
+    if is_internal(m) {
+        m.place(names::SPL, m.held(names::SPL).wrapping_add(n));
+    } else {
+        set_sp(m, word::plus(sp_of(m), n as u16));
     }
-    let old = sp_of(regs, rest);
-    let sp = word::plus(old, n as u16);
-    set_sp(regs, rest, sp);
 }

@@ -7,10 +7,13 @@ use native.Mathlib.Omega.{arith}
 use native.Mathlib.Decide.{dec_lt, ℕ_discrete}
 use native.Mathlib.Nat.{mod-eq_of_lt}
 use borrow.Author.Tests.{eqb-true, eqb-false, eq-eqb, ne_eqb, le-leb}
-use lib.Dec.{T, eqb, ltb, leb, eqb→eq, ltb→lt, leb→le, le→leb, lit<, lit≤}
+use Rattle.std.proofs.lemmas.Bool.Decides.{nat_tests}
+use lib.Dec.{T, eqb, ltb, leb, eqb→eq, ltb→lt, leb→le, lit<, lit≤}
 use lib.ListN.{get_or, length, take, drop, length-append, take-append-drop, drop_of_length-le, get_or-eq_default, get_or-append}
 use lib.Seq.{drop-cons, length-take-le, get_or-take, get_or-append-add, take_at}
-use Rattle.numbers.specs.Numbers.{refused_machine, refused_length, saved_length}
+use Rattle.std.specs.Prelude.{Ok, Err}
+use Rattle.numbers.specs.Numbers.{answered, refused_machine, refused_length, saved_length}
+use Rattle.numbers.specs.declared.Refusal.TheVariants as refusal
 use Rattle.word.specs.Choose.{pick, one_if}
 use Rattle.word.specs.Fields.{bit_of, is_set, lower, word_of, high_byte, low_byte}
 use Rattle.word.proofs.Computed.{by_test, at, under, agree, and_left, and_right}
@@ -52,6 +55,16 @@ loads_legal s e = is_legal (eqb (length s) saved_length) (legal_of s) e
     is_legal true true h = tt
     is_legal true false h = absurd (omega arith)
     is_legal false l h = absurd (omega arith)
+
+-- what bytes load to is refused as they are
+pub load_refuses : (s : List ℕ) → answered (load_of s) ≡ refusal_of s
+unfolding load_of refusal_of
+load_refuses s = go (eqb (length s) saved_length) (legal_of s)
+  where
+    go : (b l : Bool) → answered (pick b (pick l (Ok (machine_of s)) (Err refusal.Machine)) (Err refusal.Length)) ≡ first_of (pick b 0 refused_length ∷ pick l 0 refused_machine ∷ [])
+    go true true = refl
+    go true false = refl
+    go false l = refl
 
 -- ---- a list's front, and its rest one by one
 each_front : (P : ℕ → Type 0) (s : List ℕ) (n a : ℕ) → n ≤ length s → (a < n → P (get_or s a 0)) → P 0 → P (get_or (take n s) a 0)
@@ -106,42 +119,12 @@ mark_again true = refl
 mark_again false = refl
 
 -- ---- what a legal 276 bytes say
-both : (a b : Bool) → T a → T b → T (a && b)
-both true b t u = u
-both false b t u = absurd t
+passed : (b : Bool) → T b → b ≡ true
+passed true t = refl
+passed false t = absurd t
 
-all_three : (a b c : Bool) → T a → T b → T c → T (a && b && c)
-all_three a b c t u v = both (a && b) c (both a b t u) v
-
-all_four : (a b c d : Bool) → T a → T b → T c → T d → T (a && b && c && d)
-all_four a b c d t u v w = both (a && b && c) d (all_three a b c t u v) w
-
-all_five : (a b c d e : Bool) → T a → T b → T c → T d → T e → T (a && b && c && d && e)
-all_five a b c d e t u v w x = both (a && b && c && d) e (all_four a b c d t u v w) x
-
-all_six : (a b c d e f : Bool) → T a → T b → T c → T d → T e → T f → T (a && b && c && d && e && f)
-all_six a b c d e f t u v w x y = both (a && b && c && d && e) f (all_five a b c d e t u v w x) y
-
--- tests that all pass, one by one
-three : (a b c : Bool) → T (a && b && c) → T a × (T b × T c)
-three a b c t =
-    let ab = and_left (a && b) c t in
-    (and_left a b ab, (and_right a b ab, and_right (a && b) c t))
-
-four : (a b c d : Bool) → T (a && b && c && d) → T a × (T b × (T c × T d))
-four a b c d t =
-    let f = three a b c (and_left (a && b && c) d t) in
-    (f.0, (f.1.0, (f.1.1, and_right (a && b && c) d t)))
-
-five : (a b c d e : Bool) → T (a && b && c && d && e) → T a × (T b × (T c × (T d × T e)))
-five a b c d e t =
-    let f = four a b c d (and_left (a && b && c && d) e t) in
-    (f.0, (f.1.0, (f.1.1.0, (f.1.1.1, and_right (a && b && c && d) e t))))
-
-six : (a b c d e f : Bool) → T (a && b && c && d && e && f) → T a × (T b × (T c × (T d × (T e × T f))))
-six a b c d e f t =
-    let g = five a b c d e (and_left (a && b && c && d && e) f t) in
-    (g.0, (g.1.0, (g.1.1.0, (g.1.1.1.0, (g.1.1.1.1, and_right (a && b && c && d && e) f t)))))
+passes : {b : Bool} → b ≡ true → T b
+passes e = rw e tt
 
 pub record Facts (s : List ℕ) : Type 0 where
   pub divider : byte s 258 ≤ 3
@@ -165,46 +148,25 @@ pub record Facts (s : List ℕ) : Type 0 where
 facts : (s : List ℕ) → T (legal_of s) → Facts s
 unfolding legal_of counts_fit own_fit mark_fits bits_clear port_fits
 facts s t =
-    let tmr = byte s 0xF1 in
-    let irq = byte s 0xFA in
-    let parts =
-    six
-    (counts_fit (byte s 258) (byte s 259) (byte s 261))
-    (own_fit (byte s 266) (byte s 264) (byte s 265))
-    (mark_fits (byte s 267) irq)
-    (holes_empty s)
-    (bits_clear tmr irq (byte s 0xFD))
-    (port_fits (port_of s) (byte s 275))
-    t in
-    let p = three (receiver_fits (port_of s).receiver) (transmitter_fits (port_of s).transmitter) (eqb (byte s 275) 0) parts.1.1.1.1.1 in
-    let c = five (leb (byte s 258) 3) (leb 1 (byte s 259)) (leb (byte s 259) 64) (leb 1 (byte s 261)) (leb (byte s 261) 64) parts.0 in
-    let o = three (is_cost (byte s 266)) (leb (byte s 264) 1) (is_kind (byte s 265)) parts.1.0 in
-    let b =
-    five
-    (eqb (bit_of 0 tmr) 0)
-    (eqb (bit_of 2 tmr) 0)
-    (eqb (bit_of 6 irq) 0)
-    (eqb (bit_of 7 irq) 0)
-    (eqb (lower (byte s 0xFD)) 0)
-    parts.1.1.1.1.0 in
+    let legal : legal_of s ≡ true = passed (legal_of s) t in
     record {
-      divider = leb→le (byte s 258) 3 c.0;
-      prescaler0_low = leb→le 1 (byte s 259) c.1.0;
-      prescaler0_high = leb→le (byte s 259) 64 c.1.1.0;
-      prescaler1_low = leb→le 1 (byte s 261) c.1.1.1.0;
-      prescaler1_high = leb→le (byte s 261) 64 c.1.1.1.1;
-      cost = o.0;
-      tout = leb→le (byte s 264) 1 o.1.0;
-      kind = o.1.1;
-      mark_bits = leb→le (byte s 267) 1 (and_left (leb (byte s 267) 1) (is_set 0 (byte s 267) || eqb irq 0) parts.1.1.0);
-      mark = and_right (leb (byte s 267) 1) (is_set 0 (byte s 267) || eqb irq 0) parts.1.1.0;
-      holes = parts.1.1.1.0;
-      receiver = p.0;
-      transmitter = p.1.0;
-      port_spare = eqb→eq (byte s 275) 0 p.1.1;
-      tmr = both (eqb (bit_of 0 tmr) 0) (eqb (bit_of 2 tmr) 0) b.0 b.1.0;
-      irq = both (eqb (bit_of 6 irq) 0) (eqb (bit_of 7 irq) 0) b.1.1.0 b.1.1.1.0;
-      rp = b.1.1.1.1;
+      divider = grind (arith, nat_tests);
+      prescaler0_low = grind (arith, nat_tests);
+      prescaler0_high = grind (arith, nat_tests);
+      prescaler1_low = grind (arith, nat_tests);
+      prescaler1_high = grind (arith, nat_tests);
+      cost = passes (grind (arith, nat_tests));
+      tout = grind (arith, nat_tests);
+      kind = passes (grind (arith, nat_tests));
+      mark_bits = grind (arith, nat_tests);
+      mark = passes (grind (arith, nat_tests));
+      holes = passes (grind (arith, nat_tests));
+      receiver = passes (grind (arith, nat_tests));
+      transmitter = passes (grind (arith, nat_tests));
+      port_spare = grind (arith, nat_tests);
+      tmr = passes (grind (arith, nat_tests));
+      irq = passes (grind (arith, nat_tests));
+      rp = passes (grind (arith, nat_tests));
     }
 
 -- the holes of a saved machine
@@ -220,9 +182,7 @@ zeros_at s (suc n) i t a h k =
 zeros_from : (s : List ℕ) (n i : ℕ) → ((a : ℕ) → i ≤ a → a < i + n → byte s a ≡ 0) → T (zeros s i n)
 zeros_from s zero i f = tt
 zeros_from s (suc n) i f =
-    both (eqb (byte s i) 0) (zeros s (i + 1) n)
-    (rw (f i (omega arith) (omega arith)) tt)
-    (zeros_from s n (i + 1) (λ a h k. f a (omega arith) (omega arith)))
+    rw (f i (omega arith) (omega arith)) (zeros_from s n (i + 1) (λ a h k. f a (omega arith) (omega arith)))
 
 -- a hole may hold zero alone
 hole_holds : (e : Bool) (a v : ℕ) → 0x80 ≤ a → a ≤ 0xF0 → T (may_hold e a v) → v ≡ 0
@@ -239,10 +199,6 @@ hole_empty s t a e =
   where
     within : (b : ℕ) → b ≤ 0xF0 → b < 0x80 + 113
     within b h = omega arith
-
-passed : (b : Bool) → T b → b ≡ true
-passed true t = refl
-passed false t = absurd t
 
 -- IRQ, its bits as 01 and C-13 say it, and as it may be held
 irq_holds : (e : Bool) (v : ℕ) → v < 256 → T (eqb (bit_of 6 v) 0 && eqb (bit_of 7 v) 0) → T (e || eqb v 0) → T (may_hold e 0xFA v)
@@ -395,7 +351,7 @@ module _ (m : Machine) (l : Legal m) where
       zeros_from (saved_of m) 113 0x80
       (λ a h k. front a (omega arith) ∙ hole_holds m.released a (held_in m.regs a) h (omega arith) (l.file.places a))
 
-  counts_saved : T (counts_fit (byte (saved_of m) 258) (byte (saved_of m) 259) (byte (saved_of m) 261))
+  counts_saved : counts_fit (byte (saved_of m) 258) (byte (saved_of m) 259) (byte (saved_of m) 261) ≡ true
   unfolding counts_fit rest_of moving_of
   counts_saved =
       let c0 = l.moving.counting0 in
@@ -409,96 +365,59 @@ module _ (m : Machine) (l : Legal m) where
         low_of m.t0.prescaler c0.prescaler_high,
         low_of m.t1.prescaler c1.prescaler_high,
       )
-      (all_five
-      (leb m.divider 3)
-      (leb 1 m.t0.prescaler)
-      (leb m.t0.prescaler 64)
-      (leb 1 m.t1.prescaler)
-      (leb m.t1.prescaler 64)
-      (le→leb m.divider 3 divider_high)
-      (le→leb 1 m.t0.prescaler c0.prescaler_low)
-      (le→leb m.t0.prescaler 64 c0.prescaler_high)
-      (le→leb 1 m.t1.prescaler c1.prescaler_low)
-      (le→leb m.t1.prescaler 64 c1.prescaler_high))
+      (grind (arith, nat_tests))
 
-  level_fits : (b : Bool) → T (leb (one_if b) 1)
-  level_fits true = tt
-  level_fits false = tt
+  level_fits : (b : Bool) → leb (one_if b) 1 ≡ true
+  level_fits true = refl
+  level_fits false = refl
 
-  own_saved : T (own_fit (byte (saved_of m) 266) (byte (saved_of m) 264) (byte (saved_of m) 265))
+  own_saved : own_fit (byte (saved_of m) 266) (byte (saved_of m) 264) (byte (saved_of m) 265) ≡ true
   unfolding own_fit rest_of
-  own_saved =
-      rw (back 10, back 8, back 9)
-      (all_three (is_cost m.cost) (leb (one_if m.tout) 1) (is_kind m.kind) l.cost (level_fits m.tout) l.kind)
+  own_saved = rw (back 10, back 8, back 9, passed _ l.cost, level_fits m.tout, passed _ l.kind)
 
-  mark_saved : T (mark_fits (byte (saved_of m) 267) (byte (saved_of m) 0xFA))
+  mark_saved : mark_fits (byte (saved_of m) 267) (byte (saved_of m) 0xFA) ≡ true
   unfolding mark_fits rest_of
   mark_saved =
       let irq = held_in m.regs 0xFA in
-      rw (back 11, front 0xFA (lit< tt), mark_again m.released)
-      (both (leb (one_if m.released) 1) (m.released || eqb irq 0) (level_fits m.released) (irq_held m.released irq (l.file.places 0xFA)).1)
+      rw (back 11, front 0xFA (lit< tt), mark_again m.released, level_fits m.released, passed _ (irq_held m.released irq (l.file.places 0xFA)).1)
 
-  bits_saved : T (bits_clear (byte (saved_of m) 0xF1) (byte (saved_of m) 0xFA) (byte (saved_of m) 0xFD))
+  bits_saved : bits_clear (byte (saved_of m) 0xF1) (byte (saved_of m) 0xFA) (byte (saved_of m) 0xFD) ≡ true
   unfolding bits_clear may_hold
   bits_saved =
       let tmr = held_in m.regs 0xF1 in
       let irq = held_in m.regs 0xFA in
-      let tmr_may : T (eqb (bit_of 0 tmr) 0 && eqb (bit_of 2 tmr) 0) = l.file.places 0xF1 in
-      let irq_may : T (eqb (bit_of 6 irq) 0 && eqb (bit_of 7 irq) 0) = (irq_held m.released irq (l.file.places 0xFA)).0 in
-      rw (front 0xF1 (lit< tt), front 0xFA (lit< tt), front 0xFD (lit< tt))
-      (all_five
-      (eqb (bit_of 0 tmr) 0)
-      (eqb (bit_of 2 tmr) 0)
-      (eqb (bit_of 6 irq) 0)
-      (eqb (bit_of 7 irq) 0)
-      (eqb (lower (held_in m.regs 0xFD)) 0)
-      (and_left (eqb (bit_of 0 tmr) 0) (eqb (bit_of 2 tmr) 0) tmr_may)
-      (and_right (eqb (bit_of 0 tmr) 0) (eqb (bit_of 2 tmr) 0) tmr_may)
-      (and_left (eqb (bit_of 6 irq) 0) (eqb (bit_of 7 irq) 0) irq_may)
-      (and_right (eqb (bit_of 6 irq) 0) (eqb (bit_of 7 irq) 0) irq_may)
-      (l.file.places 0xFD))
+      let tmr_may : (eqb (bit_of 0 tmr) 0 && eqb (bit_of 2 tmr) 0) ≡ true = passed _ (l.file.places 0xF1) in
+      let irq_may : (eqb (bit_of 6 irq) 0 && eqb (bit_of 7 irq) 0) ≡ true = passed _ (irq_held m.released irq (l.file.places 0xFA)).0 in
+      let rp_may : eqb (lower (held_in m.regs 0xFD)) 0 ≡ true = passed _ (l.file.places 0xFD) in
+      rw (front 0xF1 (lit< tt), front 0xFA (lit< tt), front 0xFD (lit< tt)) (grind (arith, nat_tests))
 
-  port_saved : T (port_fits (port_of (saved_of m)) (byte (saved_of m) 275))
+  port_saved : port_fits (port_of (saved_of m)) (byte (saved_of m) 275) ≡ true
   unfolding port_fits port_of rest_of moving_of
   port_saved =
       let legal = l.moving.port_legal in
-      rw (back 12, back 13, back 14, back 15, back 16, back 17, back 18, back 19)
-      (all_three (receiver_fits m.port.receiver) (transmitter_fits m.port.transmitter) true
-      legal.legal_receiver.fits
-      legal.legal_transmitter.fits
-      tt)
+      rw (back 12, back 13, back 14, back 15, back 16, back 17, back 18, back 19, passed _ legal.legal_receiver.fits, passed _ legal.legal_transmitter.fits)
 
-  pub legal_saves : T (legal_of (saved_of m))
+  pub legal_saves : legal_of (saved_of m) ≡ true
   unfolding legal_of
-  legal_saves =
-      all_six
-      (counts_fit (byte (saved_of m) 258) (byte (saved_of m) 259) (byte (saved_of m) 261))
-      (own_fit (byte (saved_of m) 266) (byte (saved_of m) 264) (byte (saved_of m) 265))
-      (mark_fits (byte (saved_of m) 267) (byte (saved_of m) 0xFA))
-      (holes_empty (saved_of m))
-      (bits_clear (byte (saved_of m) 0xF1) (byte (saved_of m) 0xFA) (byte (saved_of m) 0xFD))
-      (port_fits (port_of (saved_of m)) (byte (saved_of m) 275))
-      counts_saved
-      own_saved
-      mark_saved
-      holes_saved
-      bits_saved
-      port_saved
+  legal_saves = rw (counts_saved, own_saved, mark_saved, passed _ holes_saved, bits_saved, port_saved)
 
 -- bytes that are not refused load to a legal machine, whose saved form they are
 pub bytes_and_back : (s : List ℕ) → ((i : ℕ) → byte s i < 256) → refusal_of s ≡ 0
-    → Legal (machine_of s) × (load_of s ≡ record { refusal = 0; machine = machine_of s }) × (saved_of (machine_of s) ≡ s)
+    → Legal (machine_of s) × (load_of s ≡ Ok (machine_of s)) × (saved_of (machine_of s) ≡ s)
 unfolding load_of
 bytes_and_back s bytes e =
     let long = loads_long s e in
     let f = facts s (loads_legal s e) in
-    (legal_loads s long bytes f, rw e, saved_back s long bytes f)
+    (legal_loads s long bytes f, rw (eq-eqb (length s) saved_length long, passed (legal_of s) (loads_legal s e)), saved_back s long bytes f)
+
+pub loads_to_legal : (s : List ℕ) → ((i : ℕ) → byte s i < 256) → load_of s ≡ Ok (machine_of s) → Legal (machine_of s)
+loads_to_legal s bytes e = (bytes_and_back s bytes (sym (load_refuses s) ∙ ap answered e)).0
 
 -- and a legal machine's saved form is 276 bytes, is not refused and loads to it
 pub machine_and_back : (m : Machine) → Legal m
-    → (length (saved_of m) ≡ saved_length) × (refusal_of (saved_of m) ≡ 0) × (load_of (saved_of m) ≡ record { refusal = 0; machine = m })
+    → (length (saved_of m) ≡ saved_length) × (refusal_of (saved_of m) ≡ 0) × (load_of (saved_of m) ≡ Ok m)
 unfolding refusal_of load_of
 machine_and_back m l =
     let long : eqb (length (saved_of m)) saved_length ≡ true = eq-eqb (length (saved_of m)) saved_length (saved_long m l) in
-    let legal : legal_of (saved_of m) ≡ true = passed (legal_of (saved_of m)) (legal_saves m l) in
+    let legal = legal_saves m l in
     (saved_long m l, rw (long, legal), rw (long, legal, loads_back m l))

@@ -1,67 +1,46 @@
 // A machine as 276 bytes, and back (01 "Numbers the encoder sees"; 02, C-11 and C-13).
 #![tactic(auto)]
 
-ghost use Rattle.std.specs.Prelude.{◌≡◌, length, take};
-ghost use Rattle.numbers.specs.Numbers.{file_length, saved_length};
+ghost use Rattle.std.specs.Prelude.{◌≡◌, ◌==◌, length, take, Ok, Err, IfOk, IfErr, IsOkUnless};
+ghost use Rattle.std.specs.List.{list_all};
+ghost use Rattle.numbers.specs.Numbers.{answered, file_length, saved_length};
+ghost use Rattle.numbers.specs.declared.Refusal.TheVariants.{Length};
 ghost use Rattle.word.specs.Fields.{low_byte};
 ghost use Rattle.machine.specs.Legal.{Legal};
 ghost use Rattle.saved.specs.Saved.{timer_of, port_of, port_fits, rest_of, machine_of, saved_of, counts_fit, own_fit, mark_fits, holes_empty, bits_clear, legal_of, length_refusal, refusal_of};
 ghost use Rattle.saved.specs.ForCode.{load_of};
 
 use machine::{File, Machine, names};
+use numbers::Refusal;
 use serial::{Port, Receiver, Transmitter};
 use timers::Timer;
 
-// What a saved machine loads to: a refusal's number, 7 or 6, or 0 and the machine. (A refused answer holds the standard machine, as it
-// has to hold one.)
-#[derive(Clone, Copy)]
-pub struct Loaded {
-    pub refusal: u8,
-    pub machine: Machine,
-}
-
-// One slice's bytes into another that is as long.
-fn copy(to: &mut [u8], from: &[u8])
-    requires { length to.old ≡ length from.now }
-    ensures { to.new ≡ from.now }
-{
-    let n = from.len();
-    let mut i: usize = 0;
-    while i < n {
-        to[i] = from[i];
-        i = i + 1;
-    }
-}
+// The bytes of a saved machine.
+type Saved = [u8; numbers::SAVED_LENGTH];
 
 // The bytes of the register file, which are the first.
-fn file_of(saved: &[u8]) -> File
-    requires { length saved.now ≡ saved_length }
+fn file_of(saved: &Saved) -> File
     ensures { result ≡ take file_length saved.now }
 {
     let mut file = [0u8; numbers::FILE_LENGTH];
-    copy(&mut file, &saved[0..numbers::FILE_LENGTH]);
+    file.copy_from_slice(&saved[..numbers::FILE_LENGTH]);
     file
 }
 
-fn wide(b: u8) -> u32
-    ensures { result ≡ b }
-{
-    b as u32
-}
-
 // A counter of 256 is saved as 0.
+#[tactic(auto, unfolding(crate::specs::Saved::timer_of))]
 fn timer_of(prescaler: u8, counter: u8) -> Timer
     ensures { result ≡ timer_of prescaler counter }
 {
     let left = timers::registers::or_highest(256, counter);
     Timer {
-        prescaler: wide(prescaler),
+        prescaler: u32::from(prescaler),
         counter: left,
     }
 }
 
-fn port_of(saved: &[u8]) -> Port
-    requires { length saved.now ≡ saved_length }
+#[tactic(auto, unfolding(crate::specs::Saved::port_of))]
+fn port_of(saved: &Saved) -> Port
     ensures { result ≡ port_of saved.now }
 {
     let receiver = Receiver {
@@ -81,13 +60,12 @@ fn port_of(saved: &[u8]) -> Port
     }
 }
 
-fn machine_of(saved: &[u8]) -> Machine
-    requires { length saved.now ≡ saved_length }
+#[tactic(auto, unfolding(crate::specs::Saved::machine_of))]
+fn machine_of(saved: &Saved) -> Machine
     ensures { result ≡ machine_of saved.now }
 {
     let regs = file_of(saved);
     let pc = word::word(saved[256], saved[257]);
-    let divider = wide(saved[258]);
     let t0 = timer_of(saved[259], saved[260]);
     let t1 = timer_of(saved[261], saved[262]);
     let released = word::is_set(0, saved[267]);
@@ -95,7 +73,7 @@ fn machine_of(saved: &[u8]) -> Machine
     Machine {
         regs,
         pc,
-        divider,
+        divider: u32::from(saved[258]),
         t0,
         t1,
         last3: saved[263],
@@ -108,6 +86,7 @@ fn machine_of(saved: &[u8]) -> Machine
 }
 
 // "divider 0 to 3; prescalers 1 to 64"
+#[tactic(auto, unfolding(crate::specs::Saved::counts_fit))]
 fn counts_fit(divider: u8, prescaler0: u8, prescaler1: u8) -> bool
     ensures { result ≡ counts_fit divider prescaler0 prescaler1 }
 {
@@ -115,15 +94,17 @@ fn counts_fit(divider: u8, prescaler0: u8, prescaler1: u8) -> bool
 }
 
 // "entry cost 6 to 63; T_OUT 0 or 1; type 1 or 11"
+#[tactic(auto, unfolding(crate::specs::Saved::own_fit))]
 fn own_fit(cost: u8, tout: u8, kind: u8) -> bool
     ensures { result ≡ own_fit cost tout kind }
 {
-    let payable = machine::start::is_cost(wide(cost));
-    let known = machine::start::is_kind(wide(kind));
+    let payable = machine::start::is_cost(u32::from(cost));
+    let known = machine::start::is_kind(u32::from(kind));
     payable & (tout <= 1) & known
 }
 
 // Byte 267: no bit but bit 0, and where that is clear, IRQ zero.
+#[tactic(auto, unfolding(crate::specs::Saved::mark_fits))]
 fn mark_fits(bits: u8, irq: u8) -> bool
     ensures { result ≡ mark_fits bits irq }
 {
@@ -136,21 +117,20 @@ const HOLES: usize = 0x80;
 
 const HOLES_END: usize = names::SIO as usize + 1;
 
-fn holes_empty(saved: &[u8]) -> bool
-    requires { length saved.now ≡ saved_length }
+fn all_zero(bytes: &[u8]) -> bool
+    ensures { result ≡ list_all (λ b. b == 0) bytes.now }
+{
+    bytes.iter().all(|b| *b == 0)
+}
+
+fn holes_empty(saved: &Saved) -> bool
     ensures { result ≡ holes_empty saved.now }
 {
-    let mut i = HOLES;
-    while i < HOLES_END {
-        if saved[i] != 0 {
-            return false;
-        }
-        i = i + 1;
-    }
-    true
+    all_zero(&saved[HOLES..HOLES_END])
 }
 
 // "bits 0 and 2 of TMR, 6 and 7 of IRQ, and 0 to 3 of RP zero"
+#[tactic(auto, unfolding(crate::specs::Saved::bits_clear))]
 fn bits_clear(tmr: u8, irq: u8, rp: u8) -> bool
     ensures { result ≡ bits_clear tmr irq rp }
 {
@@ -163,18 +143,15 @@ fn bits_clear(tmr: u8, irq: u8, rp: u8) -> bool
 }
 
 // The serial port's bytes, and byte 275 zero.
+#[tactic(auto, unfolding(crate::specs::Saved::port_fits))]
 fn port_fits(p: Port, spare: u8) -> bool
     ensures { result ≡ port_fits p spare }
 {
-    let receiver = p.receiver;
-    let transmitter = p.transmitter;
-    let hears = serial::receiving::fits(receiver);
-    let sends = serial::sending::fits(transmitter);
-    hears & sends & (spare == 0)
+    p.receiver.fits() & p.transmitter.fits() & (spare == 0)
 }
 
-fn is_legal(saved: &[u8]) -> bool
-    requires { length saved.now ≡ saved_length }
+#[tactic(auto, unfolding(crate::specs::Saved::legal_of))]
+fn is_legal(saved: &Saved) -> bool
     ensures { result ≡ legal_of saved.now }
 {
     let counts = counts_fit(saved[258], saved[259], saved[261]);
@@ -191,49 +168,56 @@ fn is_legal(saved: &[u8]) -> bool
     counts & own & mark & holes & bits & serial
 }
 
-// 7 where these aren't as many bytes as a saved machine has, or else 0.
-pub fn length_refusal(saved: &[u8]) -> u8
-    ensures { result ≡ length_refusal saved.now }
+// The bytes, where these are as many as a saved machine has; or refusal 7.
+fn whole(saved: &[u8]) -> Result<&Saved, Refusal>
+    ensures value { answered result ≡ length_refusal saved.now }
+    ensures taken { IfOk result (λ s. s.now ≡ saved.now) }
+    ensures only { IsOkUnless result Length }
 {
-    if saved.len() != numbers::SAVED_LENGTH {
-        numbers::REFUSED_LENGTH
+    saved.as_array().ok_or(Refusal::Length)
+}
+
+// The bytes, where they are a saved machine; or refusal 7 or 6.
+#[tactic(auto, unfolding(crate::specs::Saved::refusal_of, crate::specs::ForCode::load_of))]
+fn legal(saved: &[u8]) -> Result<&Saved, Refusal>
+    ensures value { answered result ≡ refusal_of saved.now }
+    ensures taken { IfOk result (λ s. (s.now ≡ saved.now) × (load_of saved.now ≡ Ok (machine_of saved.now))) }
+    ensures refused { IfErr result (λ e. load_of saved.now ≡ Err e) }
+{
+    let bytes = whole(saved)?;
+    if is_legal(bytes) {
+        Ok(bytes)
     } else {
-        numbers::DONE
+        Err(Refusal::Machine)
     }
 }
 
-// Whether bytes are a saved machine: 0, or the refusal's number, 7 or 6.
-pub fn check(saved: &[u8]) -> u8
-    ensures { result ≡ refusal_of saved.now }
+// Whether these are as many bytes as a saved machine has: refusal 7.
+pub fn length_refusal(saved: &[u8]) -> Result<(), Refusal>
+    ensures { answered result ≡ length_refusal saved.now }
 {
-    let refusal = length_refusal(saved);
-    if refusal != numbers::DONE {
-        return refusal;
-    }
-    let legal = is_legal(saved);
-    if legal {
-        numbers::DONE
-    } else {
-        numbers::REFUSED_MACHINE
-    }
+    whole(saved)?;
+    Ok(())
 }
 
-pub fn load(saved: &[u8]) -> Loaded
+// Whether bytes are a saved machine: refusals 7 and 6.
+pub fn check(saved: &[u8]) -> Result<(), Refusal>
+    ensures { answered result ≡ refusal_of saved.now }
+{
+    legal(saved)?;
+    Ok(())
+}
+
+#[tactic(auto, using(crate::proofs::RoundTrip::loads_to_legal))]
+pub fn load(saved: &[u8]) -> Result<Machine, Refusal>
     ensures value { result ≡ load_of saved.now }
-    ensures legal { result.refusal ≡ 0 → Legal result.machine }
+    ensures legal { IfOk result (λ m. Legal m) }
 {
-    let refusal = check(saved);
-    if refusal != numbers::DONE {
-        let machine = Machine::default();
-        return Loaded { refusal, machine };
-    }
-    let machine = machine_of(saved);
-    Loaded {
-        refusal: numbers::DONE,
-        machine,
-    }
+    let bytes = legal(saved)?;
+    Ok(machine_of(bytes))
 }
 
+// (The library's `n.to_le_bytes()[0]` is no plainer.)
 fn low(n: u32) -> u8
     ensures { result ≡ low_byte n }
 {
@@ -241,6 +225,7 @@ fn low(n: u32) -> u8
 }
 
 // The last twenty bytes.
+#[tactic(auto, unfolding(crate::specs::Saved::rest_of))]
 fn rest_of(m: Machine) -> [u8; 20]
     ensures { result ≡ rest_of m }
 {
@@ -283,12 +268,14 @@ fn rest_of(m: Machine) -> [u8; 20]
 }
 
 // A machine into its 276 bytes.
+// (A slice and no `Saved`: `save` asks no more of its callers than its `requires`.)
+#[tactic(auto, unfolding(crate::specs::Saved::saved_of))]
 pub fn save(saved: &mut [u8], m: Machine)
     requires { length saved.old ≡ saved_length }
     ensures { saved.new ≡ saved_of m }
 {
-    let file = m.regs;
     let rest = rest_of(m);
-    copy(&mut saved[0..numbers::FILE_LENGTH], &file);
-    copy(&mut saved[numbers::FILE_LENGTH..], &rest);
+    let (file, behind) = saved.split_at_mut(numbers::FILE_LENGTH);
+    file.copy_from_slice(&m.regs);
+    behind.copy_from_slice(&rest);
 }

@@ -6,32 +6,33 @@ use Rattle.word.specs.Fields.{is_set}
 use Rattle.word.proofs.Computed.{agree, agree2}
 use Rattle.word.specs.Iter.{iter}
 use Rattle.word.proofs.Iterate.{iter_add, iter_fixed}
+use Rattle.serial.specs.Clocked.{unasked}
 use Rattle.serial.specs.Parity.{is_odd, sent_bits, received_byte}
 use Rattle.serial.specs.Transmitter.{idle, stored, level_of, sent_end}
-use Rattle.serial.specs.Receiver.{waiting, started, entered, shift_clock, unasked3, heard_end}
+use Rattle.serial.specs.Receiver.{waiting, started, entered, shift_clock, heard_end}
 use Rattle.serial.specs.Port.{port_end, quiet, more_port}
 use Rattle.serial.specs.ForCode.{more_sent, sent_ends, more_heard, heard_ends}
 use Rattle.serial.specs.declared.Ended.{Ended}
 
 -- request 4 comes with the 176th end after the store and not before
-pub sent_with_176 : (parity : Bool) (v : ℕ) → ((sent_ends 175 (stored parity v)).asked ≡ false) × (sent_ends 176 (stored parity v) ≡ record { transmitter = idle; asked = true })
+pub sent_with_176 : (parity : Bool) (v : ℕ) → ((sent_ends 175 (stored parity v)).asked ≡ false) × (sent_ends 176 (stored parity v) ≡ record { half = idle; asked = true })
 unfolding iter sent_ends more_sent sent_end stored
 sent_with_176 parity v = (refl, refl)
 
 -- P37 is low for 16 ends from the store; then the bits go out, the lowest first, each for 16 ends; then it is high
-pub start_bit_low : (parity : Bool) (v d : ℕ) → d < 16 → level_of (sent_ends d (stored parity v)).transmitter ≡ false
+pub start_bit_low : (parity : Bool) (v d : ℕ) → d < 16 → level_of (sent_ends d (stored parity v)).half ≡ false
 unfolding iter sent_ends more_sent sent_end stored level_of
-start_bit_low parity v d h = agree (λ e. level_of (sent_ends e (stored parity v)).transmitter) (λ e. false) 16 refl d h
+start_bit_low parity v d h = agree (λ e. level_of (sent_ends e (stored parity v)).half) (λ e. false) 16 refl d h
 
 pub low_bit_first : (parity : Bool) (v i d : ℕ) → i < 8 → d < 16
-    → level_of (sent_ends (16 * i + 16 + d) (stored parity v)).transmitter ≡ is_set i (sent_bits parity v)
+    → level_of (sent_ends (16 * i + 16 + d) (stored parity v)).half ≡ is_set i (sent_bits parity v)
 unfolding iter sent_ends more_sent sent_end stored level_of
 low_bit_first parity v i d hi hd =
-    agree2 (λ j e. level_of (sent_ends (16 * j + 16 + e) (stored parity v)).transmitter) (λ j e. is_set j (sent_bits parity v)) 8 16 refl i d hi hd
+    agree2 (λ j e. level_of (sent_ends (16 * j + 16 + e) (stored parity v)).half) (λ j e. is_set j (sent_bits parity v)) 8 16 refl i d hi hd
 
-pub stop_bits_high : (parity : Bool) (v d : ℕ) → d < 64 → level_of (sent_ends (144 + d) (stored parity v)).transmitter ≡ true
+pub stop_bits_high : (parity : Bool) (v d : ℕ) → d < 64 → level_of (sent_ends (144 + d) (stored parity v)).half ≡ true
 unfolding iter sent_ends more_sent sent_end stored level_of
-stop_bits_high parity v d h = agree (λ e. level_of (sent_ends (144 + e) (stored parity v)).transmitter) (λ e. true) 64 refl d h
+stop_bits_high parity v d h = agree (λ e. level_of (sent_ends (144 + e) (stored parity v)).half) (λ e. true) 64 refl d h
 
 -- P37 joined to P30: one end more, and n ends after a store and the start edge that it makes
 abbrev joined : Bool → Ended → Ended
@@ -73,24 +74,24 @@ module _ (v : ℕ) (h : v < 256) where
   )
 
 -- a line that is high at the 8th end after the edge was no start bit: nothing is asked for, and the receiver waits again
-pub false_start : (parity : Bool) (received : ℕ) → heard_ends parity true 8 (started (waiting received)) ≡ unasked3 (waiting received)
+pub false_start : (parity : Bool) (received : ℕ) → heard_ends parity true 8 (started (waiting received)) ≡ unasked (waiting received)
 unfolding iter heard_ends more_heard heard_end shift_clock started
 false_start parity received = refl
 
 -- a break: P30 stays low, and a null character is received, once
-pub break_heard : (received n : ℕ) → heard_ends false false (n + 136) (started (waiting received)) ≡ record { receiver = waiting 0; asked = true }
+pub break_heard : (received n : ℕ) → heard_ends false false (n + 136) (started (waiting received)) ≡ record { half = waiting 0; asked = true }
 unfolding heard_ends iter more_heard heard_end shift_clock started entered received_byte
-break_heard received n = iter_add (more_heard false false) n 136 (unasked3 (started (waiting received))) ∙ ap (iter n (more_heard false false)) null ∙ iter_fixed (more_heard false false) _ stays n
+break_heard received n = iter_add (more_heard false false) n 136 (unasked (started (waiting received))) ∙ ap (iter n (more_heard false false)) null ∙ iter_fixed (more_heard false false) _ stays n
   where
-    null : iter 136 (more_heard false false) (unasked3 (started (waiting received))) ≡ record { receiver = waiting 0; asked = true }
+    null : iter 136 (more_heard false false) (unasked (started (waiting received))) ≡ record { half = waiting 0; asked = true }
     null = refl
 
-    stays : more_heard false false (record { receiver = waiting 0; asked = true }) ≡ record { receiver = waiting 0; asked = true }
+    stays : more_heard false false (record { half = waiting 0; asked = true }) ≡ record { half = waiting 0; asked = true }
     stays = refl
 
 -- from a start edge to the 136th end after it, another edge is data
 pub edge_in_a_character : (parity : Bool) (received n : ℕ) → n < 136
-    → started (heard_ends parity false n (started (waiting received))).receiver ≡ (heard_ends parity false n (started (waiting received))).receiver
+    → started (heard_ends parity false n (started (waiting received))).half ≡ (heard_ends parity false n (started (waiting received))).half
 unfolding iter heard_ends more_heard heard_end shift_clock started entered
 edge_in_a_character parity received n h =
-    agree (λ k. started (heard_ends parity false k (started (waiting received))).receiver) (λ k. (heard_ends parity false k (started (waiting received))).receiver) 136 refl n h
+    agree (λ k. started (heard_ends parity false k (started (waiting received))).half) (λ k. (heard_ends parity false k (started (waiting received))).half) 136 refl n h

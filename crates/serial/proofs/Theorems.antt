@@ -1,11 +1,12 @@
 -- Ends, stores and edges keep what is legal; ends in a row.
 use mathlib.Core.Path.{◌≡◌, refl, ap, ◌∙◌}
-use mathlib.Core.Bool.{Bool, true, false, not, ◌&&◌, ◌||◌}
+use mathlib.Core.Bool.{Bool, true, false, not, ◌&&◌}
 use Prim.Native.Nat.{ℕ, ◌+◌, ◌%◌, ◌≤◌, ◌<◌}
 use native.Mathlib.Nat.{add_comm}
 use native.Mathlib.Omega.{arith}
 use lib.Dec.{eqb, ltb}
 use borrow.Author.Tests.{ne_eqb, lt-ltb, eqb-true, eqb-false, ltb-true}
+use Rattle.std.proofs.Math.Bool.{or_assoc, or-false}
 use Rattle.word.specs.Choose.{pick}
 use Rattle.word.proofs.Computed.{by_test}
 use Rattle.word.specs.Iter.{iter}
@@ -15,9 +16,8 @@ use Rattle.serial.specs.Transmitter.{idle, stored, sent_end, LegalTransmitter, t
 use Rattle.serial.specs.Receiver.{waiting, started, entered, shift_clock, shifts_at, heard_end, LegalReceiver, receiver_fits}
 use Rattle.serial.specs.Port.{port_end, quiet, asked_since, more_port, port_ends, LegalPort}
 use Rattle.serial.specs.declared.Transmitter.{Transmitter}
-use Rattle.serial.specs.declared.Sent.{Sent}
 use Rattle.serial.specs.declared.Receiver.{Receiver}
-use Rattle.serial.specs.declared.Heard.{Heard}
+use Rattle.serial.specs.declared.Clocked.{Clocked}
 use Rattle.serial.specs.declared.Mode.{Mode}
 use Rattle.serial.specs.declared.Port.{Port}
 use Rattle.serial.specs.declared.Ended.{Ended}
@@ -42,7 +42,7 @@ pub stored_legal : (parity : Bool) (v : ℕ) → v < 256 → LegalTransmitter (s
 unfolding stored sent_bits
 stored_legal parity v h = sending_legal _ 1 0 (flagged parity (not (is_odd (v % 128))) v h) (omega arith) (omega arith) (omega arith)
 
-sent_legal : (t : Transmitter) → LegalTransmitter t → LegalTransmitter (sent_end t).transmitter
+sent_legal : (t : Transmitter) → LegalTransmitter t → LegalTransmitter (sent_end t).half
 unfolding sent_end
 sent_legal t l =
     by_test Legal (eqb t.place 0) (λ e. l)
@@ -52,8 +52,8 @@ sent_legal t l =
     by_test Legal (ltb (t.ends + 1) 16) (λ f. sending_legal t.bits t.place (t.ends + 1) l.bits_byte (omega arith) place (ltb-true _ _ f))
     (λ f. by_test Legal (ltb t.place 11) (λ g. sending_legal t.bits (t.place + 1) 0 l.bits_byte (omega arith) (omega (arith, ltb-true)) (omega arith)) (λ g. idle_legal)))
   where
-    Legal : Sent → Type 0
-    Legal x = LegalTransmitter x.transmitter
+    Legal : Clocked Transmitter → Type 0
+    Legal x = LegalTransmitter x.half
 
 pub waiting_legal : (received : ℕ) → received < 256 → LegalReceiver (waiting received)
 unfolding receiver_fits
@@ -94,7 +94,7 @@ started_legal r l =
     shift_of : Receiver → ℕ
     shift_of x = x.shift
 
-heard_legal : (parity high : Bool) (r : Receiver) → LegalReceiver r → LegalReceiver (heard_end parity high r).receiver
+heard_legal : (parity high : Bool) (r : Receiver) → LegalReceiver r → LegalReceiver (heard_end parity high r).half
 unfolding heard_end shift_clock received_byte
 heard_legal parity high r l =
     by_test Legal (eqb r.awaited 0) (λ e. l)
@@ -108,8 +108,8 @@ heard_legal parity high r l =
     (λ h. data_legal r.received (entered high r.shift) (r.awaited + 1) 0 l.received_byte_lem byte (omega arith) (omega (arith, ltb-true)) (omega arith))
     (λ h. waiting_legal _ (flagged parity (not (is_odd (entered high r.shift))) (entered high r.shift) byte)))))
   where
-    Legal : Heard → Type 0
-    Legal x = LegalReceiver x.receiver
+    Legal : Clocked Receiver → Type 0
+    Legal x = LegalReceiver x.half
 
     byte : entered high r.shift < 256
     byte = entered_byte high r.shift l.shift_byte
@@ -138,14 +138,6 @@ unfolding port_ends more_port
 ends_legal m n p l = iter_keeps (more_port m) (λ (x : Ended). LegalPort x.port) (λ (x : Ended) k. end_legal m x.port k) n (quiet p) l
 
 -- a ends and then b are a + b, and their requests come together
-or_assoc : (a b c : Bool) → (a || b) || c ≡ a || (b || c)
-or_assoc true b c = refl
-or_assoc false b c = refl
-
-or_false : (a : Bool) → a || false ≡ a
-or_false true = refl
-or_false false = refl
-
 module _ (m : Mode) where
   more_since : (x y : Ended) → more_port m (asked_since x y) ≡ asked_since x (more_port m y)
   unfolding more_port
@@ -155,7 +147,7 @@ module _ (m : Mode) where
   unfolding port_ends
   ends_in_a_row a b p =
       let x = iter a (more_port m) (quiet p) in
-      let whole : x ≡ asked_since x (quiet x.port) = rw (or_false x.asked3, or_false x.asked4) in
+      let whole : x ≡ asked_since x (quiet x.port) = rw (or-false x.asked3, or-false x.asked4) in
       iter_split (more_port m) (a + b) b a (add_comm a b) (quiet p)
       ∙ ap (iter b (more_port m)) whole
       ∙ iter_past (more_port m) (asked_since x) (more_since x) b (quiet x.port)

@@ -4,15 +4,16 @@ use Rattle.std.specs.Prelude.{false, ◌||◌, ℕ}
 use Rattle.word.specs.Iter.{iter}
 use Rattle.serial.specs.Transmitter.{sent_end, LegalTransmitter}
 use Rattle.serial.specs.Receiver.{heard_end, LegalReceiver}
-use Rattle.serial.specs.declared.Sent.{Sent}
-use Rattle.serial.specs.declared.Heard.{Heard}
+use Rattle.serial.specs.declared.Clocked.{Clocked}
+use Rattle.serial.specs.declared.Transmitter.{Transmitter}
+use Rattle.serial.specs.declared.Receiver.{Receiver}
 use Rattle.serial.specs.declared.Mode.{Mode}
 use Rattle.serial.specs.declared.Port.{Port}
 use Rattle.serial.specs.declared.Ended.{Ended}
 
 -- the two halves, each with its request
-abbrev pub both : Heard → Sent → Ended
-both h s = record { port = record { receiver = h.receiver; transmitter = s.transmitter }; asked3 = h.asked; asked4 = s.asked }
+abbrev pub both : Clocked Receiver → Clocked Transmitter → Ended
+both h s = record { port = record { receiver = h.half; transmitter = s.half }; asked3 = h.asked; asked4 = s.asked }
 
 -- One end of T0, which the port hears while it is on: whoever clocks it looks at `on`.
 unfoldable pub port_end : Mode → Port → Ended

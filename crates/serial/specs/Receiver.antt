@@ -1,9 +1,10 @@
 -- The receiver, one end of T0 at a time (004, 12.3.1; 02, C-11). What its numbers stand for is said at the struct, in src/lib.rt.
-use Rattle.std.specs.Prelude.{Bool, true, false, ◌&&◌, ℕ, ◌+◌, ◌/◌, ◌<◌, T, eqb, ltb}
+use Rattle.std.specs.Prelude.{Bool, true, ◌&&◌, ℕ, ◌+◌, ◌/◌, ◌<◌, T, eqb, ltb}
 use Rattle.word.specs.Choose.{pick, bits_if}
+use Rattle.serial.specs.Clocked.{unasked}
 use Rattle.serial.specs.Parity.{received_byte}
 use Rattle.serial.specs.declared.Receiver.{Receiver}
-use Rattle.serial.specs.declared.Heard.{Heard}
+use Rattle.serial.specs.declared.Clocked.{Clocked}
 
 -- "After a hardware reset or after a character has been received, the Receiver Shift register is initialized to all 1s and the shift clock is
 -- stopped." The byte received last stays until the next one: "it is not protected from being overwritten" (12.3.2).
@@ -25,21 +26,17 @@ shifted_in high r = record { received = r.received; shift = entered high r.shift
 
 -- "After a full character has been assembled in the Shift register, the data is transferred to the receiver's buffer, SIO (%F0), and interrupt
 -- request IRQ_3 is generated. The shift clock is stopped and the Shift register reset to all 1s."
-abbrev pub to_buffer : Bool → ℕ → Heard
-to_buffer parity character = record { receiver = waiting (received_byte parity character); asked = true }
-
--- with no request
-abbrev pub unasked3 : Receiver → Heard
-unasked3 r = record { receiver = r; asked = false }
+abbrev pub to_buffer : Bool → ℕ → Clocked Receiver
+to_buffer parity character = record { half = waiting (received_byte parity character); asked = true }
 
 -- The shift clock, P30 being high or not. "This clock shifts the start bit into the Receiver Shift register at the center of the bit time.
 -- Before the shift actually occurs, the input is rechecked to ensure that the start bit is valid. If the detected start bit is false, the
 -- receiver is reset and the process of looking for a start bit is repeated. If the start bit is valid, the data is shifted into the Shift
 -- register [..] until a full character is assembled", that is with data bit 7, which 9 stands for.
-unfoldable pub shift_clock : Bool → Bool → Receiver → Heard
+unfoldable pub shift_clock : Bool → Bool → Receiver → Clocked Receiver
 shift_clock parity high r =
-    pick (eqb r.awaited 1 && high) (unasked3 (waiting r.received))
-    (pick (ltb r.awaited 9) (unasked3 (shifted_in high r)) (to_buffer parity (entered high r.shift)))
+    pick (eqb r.awaited 1 && high) (unasked (waiting r.received))
+    (pick (ltb r.awaited 9) (unasked (shifted_in high r)) (to_buffer parity (entered high r.shift)))
 
 -- "The T_0 input is divided by 16 and, when the count equals 8, the divider outputs a shift clock", and then "every sixteen counts": from the
 -- start edge to the middle of the start bit, and from middle to middle.
@@ -47,11 +44,11 @@ abbrev pub shifts_at : ℕ → ℕ
 shifts_at awaited = pick (eqb awaited 1) 8 16
 
 -- one end of T0, and whether request 3 comes with it
-unfoldable pub heard_end : Bool → Bool → Receiver → Heard
+unfoldable pub heard_end : Bool → Bool → Receiver → Clocked Receiver
 heard_end parity high r =
-    pick (eqb r.awaited 0) (unasked3 r)
+    pick (eqb r.awaited 0) (unasked r)
     (pick (ltb (r.ends + 1) (shifts_at r.awaited))
-    (unasked3 (record { received = r.received; shift = r.shift; awaited = r.awaited; ends = r.ends + 1 }))
+    (unasked (record { received = r.received; shift = r.shift; awaited = r.awaited; ends = r.ends + 1 }))
     (shift_clock parity high r))
 
 -- which numbers are a receiver's: the saved machine's bytes 268 to 271

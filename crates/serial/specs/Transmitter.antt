@@ -2,9 +2,10 @@
 use Rattle.std.specs.Prelude.{Bool, true, false, ◌&&◌, ℕ, ◌+◌, ◌-◌, ◌<◌, T, eqb, ltb}
 use Rattle.word.specs.Choose.{pick}
 use Rattle.word.specs.Fields.{is_set}
+use Rattle.serial.specs.Clocked.{unasked}
 use Rattle.serial.specs.Parity.{sent_bits}
 use Rattle.serial.specs.declared.Transmitter.{Transmitter}
-use Rattle.serial.specs.declared.Sent.{Sent}
+use Rattle.serial.specs.declared.Clocked.{Clocked}
 
 -- "After a hardware reset or after a character has been transmitted, the transmitter is forced to a marking state (output always High) until
 -- a character is loaded into the transmitter buffer"
@@ -25,20 +26,16 @@ level_of t =
     (pick (eqb t.place 1) false
     (pick (ltb t.place 10) (is_set (t.place - 2) t.bits) true))
 
--- with no request
-abbrev pub unasked4 : Transmitter → Sent
-unasked4 t = record { transmitter = t; asked = false }
-
 -- One end of T0, and whether request 4 comes with it. "T_0's output drives a divide-by-16 counter which in turn generates a shift clock
 -- every 16 counts. [..] The transmitter then outputs one bit per shift clock, through Port 3 pin P37, until a start bit, the character
 -- written to the buffer, and two stop bits have been transmitted. After the second stop bit has been transmitted, the output is again
 -- forced to a marking state. Interrupt request IRQ_4 is generated".
-unfoldable pub sent_end : Transmitter → Sent
+unfoldable pub sent_end : Transmitter → Clocked Transmitter
 sent_end t =
-    pick (eqb t.place 0) (unasked4 t)
-    (pick (ltb (t.ends + 1) 16) (unasked4 (record { bits = t.bits; place = t.place; ends = t.ends + 1 }))
-    (pick (ltb t.place 11) (unasked4 (record { bits = t.bits; place = t.place + 1; ends = 0 }))
-    (record { transmitter = idle; asked = true })))
+    pick (eqb t.place 0) (unasked t)
+    (pick (ltb (t.ends + 1) 16) (unasked (record { bits = t.bits; place = t.place; ends = t.ends + 1 }))
+    (pick (ltb t.place 11) (unasked (record { bits = t.bits; place = t.place + 1; ends = 0 }))
+    (record { half = idle; asked = true })))
 
 -- which numbers are a transmitter's: the saved machine's bytes 272 to 274
 unfoldable pub transmitter_fits : Transmitter → Bool

@@ -4,37 +4,7 @@ ghost use Rattle.word.specs.Iter.{iter};
 ghost use Rattle.serial.specs.Receiver.{waiting, started, entered, LegalReceiver, receiver_fits};
 ghost use Rattle.serial.specs.ForCode.{heard_ends};
 
-use crate::{Heard, Receiver};
-
-// Waiting for a start bit.
-pub fn waiting(received: u8) -> Receiver
-    ensures { result ≡ waiting received }
-{
-    Receiver {
-        received,
-        shift: 0xFF,
-        awaited: 0,
-        ends: 0,
-    }
-}
-
-// A falling edge of P30.
-pub fn start(r: Receiver) -> Receiver
-    ensures { result ≡ started r }
-{
-    let received = r.received;
-    let shift = r.shift;
-    let awaited = r.awaited;
-    if 0 < awaited {
-        return r;
-    }
-    Receiver {
-        received,
-        shift,
-        awaited: 1,
-        ends: 0,
-    }
-}
+use crate::{Clocked, Mode, Receiver, unasked};
 
 // The shift register after k bits of this level.
 fn shifted(high: bool, shift: u8, k: u8) -> u8
@@ -46,107 +16,103 @@ fn shifted(high: bool, shift: u8, k: u8) -> u8
     word::low_byte(both >> (k as u16))
 }
 
-// n ends of T0 past the middle of the start bit. A character is over with the 128th end after it; d is how many that are, with these.
-fn data_ends(r: Receiver, parity: bool, high: bool, n: u32) -> Heard
-    requires legal_receiver { LegalReceiver r }
-    requires le_awaited { 2 ≤ r.awaited }
-    ensures { result ≡ heard_ends parity high n r }
-{
-    let received = r.received;
-    let shift = r.shift;
-    let ends = r.ends;
-    let awaited = r.awaited;
-    let before = awaited - 2;
-    let gone = 16 * before + ends;
-    let d = gone as u64 + n as u64;
-    if d < 128 {
-        let at = d as u8;
-        let bits = at / 16;
-        let more = bits - before;
-        let next = bits + 2;
-        let moved = shifted(high, shift, more);
-        let receiver = Receiver {
+impl Receiver {
+    // Waiting for a start bit.
+    pub fn waiting(received: u8) -> Self
+        ensures { result ≡ waiting received }
+    {
+        Receiver {
             received,
-            shift: moved,
-            awaited: next,
-            ends: at % 16,
-        };
-        return Heard {
-            receiver,
-            asked: false,
-        };
+            shift: 0xFF,
+            awaited: 0,
+            ends: 0,
+        }
     }
-    let rest = 8 - before;
-    let character = shifted(high, shift, rest);
-    let byte = crate::parity::received(parity, character);
-    let receiver = waiting(byte);
-    Heard {
-        receiver,
-        asked: true,
-    }
-}
 
-// n ends of T0, P30 held: to the middle of the start bit, where it is looked at again, d ends after the edge; and from there on.
-pub fn ends(r: Receiver, parity: bool, high: bool, n: u32) -> Heard
-    requires { LegalReceiver r }
-    ensures { result ≡ heard_ends parity high n r }
-{
-    let received = r.received;
-    let shift = r.shift;
-    let awaited = r.awaited;
-    let ends = r.ends;
-    if awaited == 0 {
-        return Heard {
-            receiver: r,
-            asked: false,
-        };
+    // A falling edge of P30.
+    #[tactic(auto, unfolding(crate::specs::Receiver::started))]
+    pub fn start(self) -> Self
+        ensures { result ≡ started self }
+    {
+        if 0 < self.awaited {
+            return self;
+        }
+        Receiver {
+            awaited: 1,
+            ends: 0,
+            ..self
+        }
     }
-    if 1 < awaited {
-        return data_ends(r, parity, high, n);
-    }
-    let d = ends as u64 + n as u64;
-    if d < 8 {
-        let at = d as u8;
-        let receiver = Receiver {
-            received,
-            shift,
-            awaited,
-            ends: at,
-        };
-        return Heard {
-            receiver,
-            asked: false,
-        };
-    }
-    if high {
-        let receiver = waiting(received);
-        return Heard {
-            receiver,
-            asked: false,
-        };
-    }
-    let begun = Receiver {
-        received,
-        shift: 0x7F,
-        awaited: 2,
-        ends: 0,
-    };
-    let later = (d - 8) as u32;
-    data_ends(begun, parity, high, later)
-}
 
-// Whether the four bytes are a receiver.
-pub fn fits(r: Receiver) -> bool
-    ensures { result ≡ receiver_fits r }
-{
-    let shift = r.shift;
-    let awaited = r.awaited;
-    let ends = r.ends;
-    if awaited == 0 {
-        return (shift == 0xFF) & (ends == 0);
+    // n ends of T0 past the middle of the start bit. A character is over with the 128th end after it; d is how many that are, with these.
+    #[tactic(auto, using(crate::proofs::Ranges::data_range, crate::proofs::Reception::hears_out))]
+    fn hear_data(self, m: Mode, n: u32) -> Clocked<Self>
+        requires legal_receiver { LegalReceiver self }
+        requires le_awaited { 2 ≤ self.awaited }
+        ensures { result ≡ heard_ends m.parity m.high n self }
+    {
+        let before = self.awaited - 2;
+        let gone = 16 * before + self.ends;
+        let d = gone as u64 + n as u64;
+        if d < 128 {
+            let at = d as u8;
+            let bits = at / 16;
+            let shift = shifted(m.high, self.shift, bits - before);
+            return unasked(Receiver {
+                shift,
+                awaited: bits + 2,
+                ends: at % 16,
+                ..self
+            });
+        }
+        let character = shifted(m.high, self.shift, 8 - before);
+        let byte = crate::parity::received(m.parity, character);
+        Clocked {
+            half: Receiver::waiting(byte),
+            asked: true,
+        }
     }
-    if awaited == 1 {
-        return (shift == 0xFF) & (ends < 8);
+
+    // n ends of T0, P30 held: to the middle of the start bit, where it is looked at again, d ends after the edge; and from there on.
+    #[tactic(auto, using(crate::proofs::Reception::to_the_middle))]
+    pub fn hear(self, m: Mode, n: u32) -> Clocked<Self>
+        requires { LegalReceiver self }
+        ensures { result ≡ heard_ends m.parity m.high n self }
+    {
+        if self.awaited == 0 {
+            return unasked(self);
+        }
+        if 1 < self.awaited {
+            return self.hear_data(m, n);
+        }
+        let d = self.ends as u64 + n as u64;
+        if d < 8 {
+            return unasked(Receiver {
+                ends: d as u8,
+                ..self
+            });
+        }
+        if m.high {
+            return unasked(Receiver::waiting(self.received));
+        }
+        let begun = Receiver {
+            shift: 0x7F,
+            awaited: 2,
+            ends: 0,
+            ..self
+        };
+        begun.hear_data(m, (d - 8) as u32)
     }
-    (awaited < 10) & (ends < 16)
+
+    // Whether the four bytes are a receiver.
+    #[tactic(auto, unfolding(crate::specs::Receiver::receiver_fits))]
+    pub fn fits(self) -> bool
+        ensures { result ≡ receiver_fits self }
+    {
+        match self.awaited {
+            0 => (self.shift == 0xFF) & (self.ends == 0),
+            1 => (self.shift == 0xFF) & (self.ends < 8),
+            _ => (self.awaited < 10) & (self.ends < 16),
+        }
+    }
 }

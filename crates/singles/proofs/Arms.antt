@@ -5,12 +5,12 @@ use mathlib.Core.List.{List}
 use Prim.Native.Nat.{ℕ, ◌≤◌, ◌<◌}
 use lib.Dec.{T, leb, ltb}
 use borrow.Author.Tests.{le-leb, lt-ltb}
+use Rattle.std.specs.Prelude.{None}
 use Rattle.word.specs.Fields.{upper, lower, word_of}
 use Rattle.word.specs.Words.{plus}
 use Rattle.word.proofs.Computed.{NoneOf, fails, else_passes}
 use Rattle.opcodes.specs.Map.{entry_of, opcode_map}
 use Rattle.opcodes.specs.Instruction.{length_of, defined}
-use Rattle.opcodes.specs.declared.Entry.TheVariants.{Blank}
 use Rattle.opcodes.specs.declared.Kind.{Kind}
 use Rattle.opcodes.specs.declared.Kind.TheVariants.{Lde, Ldei, Ldc, Ldci, Ld, Call}
 use Rattle.opcodes.specs.declared.Way.TheVariants.{In, Out}
@@ -24,8 +24,8 @@ use Rattle.machine.specs.Memory.{stored_in, data_byte, program_byte}
 use Rattle.machine.specs.declared.Machine.{Machine}
 use Rattle.machine.specs.declared.Pins.{Pins}
 use Rattle.machine.specs.declared.Bytes.TheVariants as bytes
-use Rattle.machine.specs.declared.Stores.TheVariants as stores
-use Rattle.lent.specs.View.{Left, stacked}
+use Rattle.std.specs.Prelude.{Some, None}
+use Rattle.machine.specs.ForCode.{Left, stacked}
 use Rattle.deeds.specs.Modes.{upper_at, lower_at, operands_of, from_register, target_of}
 use Rattle.deeds.specs.Pages.{deed_of, outcome_of, ld_deed, lde_deed, ldei_deed, ldc_deed, ldci_deed, call_deed, data_move, program_move}
 use Rattle.deeds.specs.declared.Code.{Code}
@@ -51,7 +51,7 @@ module _ {p : Pins} (image mem : List ℕ) {n : Machine} {pc : ℕ} {i : Code} {
 
   -- a byte stored in data memory, to where the pair points
   abbrev memory_with : ℕ → List ℕ
-  memory_with v = stored_in n.kind mem (stores.At a (bytes.One v))
+  memory_with v = stored_in n.kind mem (Some (a, bytes.One v))
 
   abbrev This : Performed → Type 0
   This x = x ≡ instruction_at p image mem n pc i
@@ -124,7 +124,7 @@ blank_there : (a b r d : Bool) → a ≡ true → b ≡ true → T r → T (not 
 blank_there a b true d e f t h = rw (e, f) at h
 blank_there a b false d e f t h = absurd t
 
-pub single_blank : (op : ℕ) → op < 256 → 2 ≤ lower op → lower op < 8 → T (single_row (upper op)) → NoneOf op (fails elsewhere_or_blank 256) → Blank ≡ entry_of op
+pub single_blank : (op : ℕ) → op < 256 → 2 ≤ lower op → lower op < 8 → T (single_row (upper op)) → NoneOf op (fails elsewhere_or_blank 256) → None ≡ entry_of op
 single_blank op h l u r d =
     blank_is (entry_of op)
     (blank_there _ _ (single_row (upper op)) (defined (entry_of op)) (le-leb 2 (lower op) l) (lt-ltb (lower op) 8 u) r (else_passes elsewhere_or_blank 256 op h d))

@@ -3,117 +3,110 @@
 
 ghost use Rattle.std.specs.Prelude.{◌≡◌};
 ghost use Rattle.machine.specs.Registers.{write_reg};
-ghost use Rattle.lent.specs.View.{machine_in};
 ghost use Rattle.execute.specs.Doing.{counted_up, pair_counted_up};
-ghost use Rattle.execute.specs.ForCode.{performed, instruction_at};
+ghost use Rattle.execute.specs.ForCode.{left_with, instruction_at};
 ghost use Rattle.singles.specs.ForCode.{Single};
 
 use deeds::Code;
-use lent::Rest;
-use machine::{File, Pins};
+use execute::doing;
+use machine::{Machine, Pins};
+use numbers::Refusal;
+use registers::addresses;
 
 // "LDCI and LDEI store, then add one" to the register and to the pair.
-fn block(regs: &mut File, rest: &mut Rest, pins: Pins, dst: u8, v: u8, r: u8, rr: u8)
-    ensures { machine_in regs.new rest.new ≡ pair_counted_up pins (counted_up pins (write_reg (machine_in regs.old rest.old) dst v) r) rr }
+fn block(m: &mut Machine, pins: Pins, dst: u8, v: u8, r: u8, rr: u8)
+    ensures { m.new ≡ pair_counted_up pins (counted_up pins (write_reg m.old dst v) r) rr }
 {
-    registers::write(regs, rest, dst, v);
-    execute::doing::count_up(regs, rest, pins, r, rr);
+    registers::write(m, dst, v);
+    doing::count_up(m, pins, r, rr);
 }
 
 pub fn singles(
-    regs: &mut File,
-    rest: &mut Rest,
+    m: &mut Machine,
     pins: Pins,
     mem: &mut [u8],
     image: &[u8],
     pc: u16,
     i: Code,
-) -> u32
-    requires { Single (machine_in regs.old rest.old) pc i }
-    ensures { performed (machine_in regs.new rest.new) mem.new result ≡ instruction_at pins image.now mem.old (machine_in regs.old rest.old) pc i }
+) -> Result<u32, Refusal>
+    requires { Single m.old pc i }
+    ensures { left_with m.new mem.new result ≡ instruction_at pins image.now mem.old m.old pc i }
 {
-    let r = registers::addresses::working(regs, rest, i.first / 16);
-    let x = registers::addresses::working(regs, rest, i.first % 16);
-    let pointed = registers::addresses::read_pair(regs, rest, pins, x);
-    let op = i.op;
-    match op {
+    let r = addresses::working(m, i.first / 16);
+    let x = addresses::working(m, i.first % 16);
+    let pointed = addresses::read_pair(m, pins, x);
+    match i.op {
         0x82 => {
-            let v = lent::memory::load(rest, mem, pointed);
-            registers::write(regs, rest, r, v);
-            12
+            let v = machine::memory::load(m.kind, mem, pointed);
+            registers::write(m, r, v);
+            Ok(12)
         }
         0x83 => {
-            let to = registers::read(regs, rest, pins, r);
-            let v = lent::memory::load(rest, mem, pointed);
-            block(regs, rest, pins, to, v, r, x);
-            18
+            let to = registers::read(m, pins, r);
+            let v = machine::memory::load(m.kind, mem, pointed);
+            block(m, pins, to, v, r, x);
+            Ok(18)
         }
         0x92 => {
-            let v = registers::read(regs, rest, pins, r);
-            lent::memory::store(rest, mem, pointed, v);
-            12
+            let v = registers::read(m, pins, r);
+            machine::memory::store_byte(m.kind, mem, pointed, v);
+            Ok(12)
         }
         0x93 => {
-            let from = registers::read(regs, rest, pins, r);
-            let v = registers::read(regs, rest, pins, from);
-            lent::memory::store(rest, mem, pointed, v);
-            execute::doing::count_up(regs, rest, pins, r, x);
-            18
+            let v = registers::read(m, pins, registers::read(m, pins, r));
+            machine::memory::store_byte(m.kind, mem, pointed, v);
+            doing::count_up(m, pins, r, x);
+            Ok(18)
         }
         0xC2 => {
             let v = machine::memory::program(image, pointed);
-            registers::write(regs, rest, r, v);
-            12
+            registers::write(m, r, v);
+            Ok(12)
         }
         0xC3 => {
-            let to = registers::read(regs, rest, pins, r);
+            let to = registers::read(m, pins, r);
             let v = machine::memory::program(image, pointed);
-            block(regs, rest, pins, to, v, r, x);
-            18
+            block(m, pins, to, v, r, x);
+            Ok(18)
         }
         0xC7 => {
-            let a = registers::addresses::indexed(regs, rest, pins, i.second, i.first % 16);
-            let v = registers::read(regs, rest, pins, a);
-            registers::write(regs, rest, r, v);
-            10
+            let a = addresses::indexed(m, pins, i.second, i.first % 16);
+            let v = registers::read(m, pins, a);
+            registers::write(m, r, v);
+            Ok(10)
         }
-        0xD2 => 12,
+        0xD2 => Ok(12),
         0xD3 => {
-            execute::doing::count_up(regs, rest, pins, r, x);
-            18
+            doing::count_up(m, pins, r, x);
+            Ok(18)
         }
         0xD4 => {
-            let next = word::plus(pc, 2);
-            lent::set_pc(regs, rest, next);
-            let a = registers::addresses::register(regs, rest, i.first);
-            let to = registers::addresses::read_pair(regs, rest, pins, a);
-            execute::doing::call(regs, rest, mem, to);
-            20
+            m.pc = word::plus(pc, 2);
+            let to = addresses::read_pair(m, pins, addresses::register(m, i.first));
+            doing::call(m, mem, to);
+            Ok(20)
         }
         0xD6 => {
-            let to = word::word(i.first, i.second);
-            execute::doing::call(regs, rest, mem, to);
-            20
+            doing::call(m, mem, word::word(i.first, i.second));
+            Ok(20)
         }
         0xD7 => {
-            let a = registers::addresses::indexed(regs, rest, pins, i.second, i.first % 16);
-            let v = registers::read(regs, rest, pins, r);
-            registers::write(regs, rest, a, v);
-            10
+            let a = addresses::indexed(m, pins, i.second, i.first % 16);
+            let v = registers::read(m, pins, r);
+            registers::write(m, a, v);
+            Ok(10)
         }
         0xF3 => {
-            let to = registers::read(regs, rest, pins, r);
-            let v = registers::read(regs, rest, pins, x);
-            registers::write(regs, rest, to, v);
-            6
+            let v = registers::read(m, pins, x);
+            registers::write(m, registers::read(m, pins, r), v);
+            Ok(6)
         }
         0xF5 => {
-            let a = registers::addresses::register(regs, rest, i.first);
-            let v = registers::read(regs, rest, pins, a);
-            let to = registers::addresses::indirect(regs, rest, pins, i.second);
-            registers::write(regs, rest, to, v);
-            10
+            let v = registers::read(m, pins, addresses::register(m, i.first));
+            let to = addresses::indirect(m, pins, i.second);
+            registers::write(m, to, v);
+            Ok(10)
         }
-        _ => execute::doing::refused(regs, rest, pc),
+        _ => doing::refused(m, pc),
     }
 }

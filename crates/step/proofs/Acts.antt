@@ -8,10 +8,9 @@ use native.Mathlib.Omega.{arith}
 use borrow.Author.Tests.{eqb-true}
 use lib.Dec.{T, eqb}
 use lib.ListN.{get_or}
+use Rattle.std.specs.Prelude.{Option, Some, None}
 use Rattle.word.proofs.Computed.{by_test}
 use Rattle.opcodes.specs.Map.{entry_of}
-use Rattle.opcodes.specs.declared.Entry.{Entry}
-use Rattle.opcodes.specs.declared.Entry.TheVariants as entry
 use Rattle.opcodes.specs.declared.Kind.{Kind}
 use Rattle.machine.specs.State.{held}
 use Rattle.machine.specs.Memory.{program_byte, stored_in}
@@ -20,7 +19,7 @@ use Rattle.machine.specs.Legal.{Legal}
 use Rattle.machine.specs.declared.Machine.{Machine}
 use Rattle.machine.specs.declared.Pins.{Pins}
 use Rattle.machine.proofs.Whole.{span_last3}
-use Rattle.lent.specs.View.{Left, stacked}
+use Rattle.machine.specs.ForCode.{Left, stacked}
 use Rattle.deeds.proofs.Fits.{AllRead}
 use Rattle.execute.specs.Execute.{Execution, refused_of, code_at, perform_of, execute_as, execute_of}
 use Rattle.execute.specs.ForCode.{Performed, performed, performed_by}
@@ -29,12 +28,11 @@ use Rattle.execute.proofs.Leaves.{execute_leaves}
 use Rattle.interrupts.specs.Edges.{compared_of}
 use Rattle.interrupts.specs.Grants.{granted, grant_of}
 use Rattle.interrupts.specs.Entry.{entered_of}
-use Rattle.interrupts.specs.declared.grants.Grant.{Grant}
-use Rattle.interrupts.specs.declared.grants.Grant.TheVariants as grant
 use Rattle.interrupts.proofs.Steady.{compared_leaves, compared_again, compared_last}
 use Rattle.interrupts.proofs.Legal.{entered_leaves}
 use Rattle.step.specs.Step.{Progress, Action, granted_or, act_on, action_of, clocked_on, step_of}
-use Rattle.step.proofs.Good.{granted_costs, unclocked}
+use Rattle.step.specs.Run.{nothing_done}
+use Rattle.step.proofs.Good.{unclocked}
 
 -- the bytes of a slice, read past its end too
 pub read_any : (l : List ℕ) → ((i : ℕ) → get_or l i 0 < 256) → AllRead l
@@ -55,17 +53,17 @@ module _ (p : Pins) (image mem : List ℕ) (m : Machine) (l : Legal m) where
       executed_at p image mem (compared_of m p.port3).machine m.pc
       (compared_leaves m p.port3 l.file.long (l.file.bytes 0xF1)).pc_left
 
-  pub blank_refused : grant_of (compared_of m p.port3).machine ≡ grant.Nothing → entry_of (code_at image m.pc).op ≡ entry.Blank
+  pub blank_refused : grant_of (compared_of m p.port3).machine ≡ None → entry_of (code_at image m.pc).op ≡ None
       → action_of p image mem m ≡ record { done = refused_of m; ends1 = 0 }
   unfolding action_of granted_or act_on execute_as
   blank_refused g e = rw (g, at_same, e)
 
-  pub kind_taken : {k : Kind} → grant_of (compared_of m p.port3).machine ≡ grant.Nothing → entry_of (code_at image m.pc).op ≡ entry.Of k
+  pub kind_taken : {k : Kind} → grant_of (compared_of m p.port3).machine ≡ None → entry_of (code_at image m.pc).op ≡ Some k
       → (action_of p image mem m).done.refusal ≡ 0
   unfolding action_of granted_or act_on execute_as perform_of
   kind_taken g e = rw (g, at_same, e)
 
-  pub request_taken : {n : ℕ} → grant_of (compared_of m p.port3).machine ≡ grant.Request n → (action_of p image mem m).done.refusal ≡ 0
+  pub request_taken : {n : ℕ} → grant_of (compared_of m p.port3).machine ≡ Some n → (action_of p image mem m).done.refusal ≡ 0
   unfolding action_of granted_or act_on
   request_taken g = rw g
 
@@ -79,7 +77,7 @@ granted_is p m l =
 
 -- what is left when a request was entered
 pub entered_left : (p : Pins) (image mem : List ℕ) (m : Machine) (n : ℕ) (l : Left) → l ≡ stacked m.kind mem (entered_of image m n)
-    → performed l.machine l.memory m.cost ≡ performed_by m mem (granted_or p image mem m (grant.Request n))
+    → performed l.machine l.memory m.cost ≡ performed_by m mem (granted_or p image mem m (Some n))
 unfolding granted_or
 entered_left p image mem m n l e = rw e
 
@@ -92,15 +90,15 @@ module _ (p : Pins) (image mem : List ℕ) (m : Machine) where
   executed_refused : eqb (execute_of p image mem m).refusal 0 ≡ false → refused_of m ≡ execute_of p image mem m
   executed_refused t = go (entry_of (program_byte image m.pc)) refl
     where
-      go : (e : Entry) → entry_of (program_byte image m.pc) ≡ e → refused_of m ≡ execute_of p image mem m
-      go entry.Blank e = sym (undefined_refused p image mem m e)
-      go (entry.Of k) e = let d : eqb (execute_of p image mem m).refusal 0 ≡ true = rw (defined_done p image mem m e) in absurd (subst T (sym d ∙ t) tt)
+      go : (e : Option Kind) → entry_of (program_byte image m.pc) ≡ e → refused_of m ≡ execute_of p image mem m
+      go None e = sym (undefined_refused p image mem m e)
+      go (Some k) e = let d : eqb (execute_of p image mem m).refusal 0 ≡ true = rw (defined_done p image mem m e) in absurd (subst T (sym d ∙ t) tt)
 
   -- where it is refused, it is nothing at all
-  pub refused_is : (g : Grant) → eqb (granted_or p image mem m g).refusal 0 ≡ false → refused_of m ≡ granted_or p image mem m g
+  pub refused_is : (g : Option ℕ) → eqb (granted_or p image mem m g).refusal 0 ≡ false → refused_of m ≡ granted_or p image mem m g
   unfolding granted_or
-  refused_is grant.Nothing t = executed_refused t
-  refused_is (grant.Request n) t = absurd (subst T t tt)
+  refused_is None t = executed_refused t
+  refused_is (Some n) t = absurd (subst T t tt)
 
   module _ (l : Legal m) (e : m.last3 ≡ p.port3) where
     again : compared_of m p.port3 ≡ record { machine = m; ends1 = 0 }
@@ -120,36 +118,19 @@ module _ (p : Pins) (image mem : List ℕ) (m : Machine) where
       unfolding step_of
       clocked = ap (clocked_on m mem) action_is
 
-      -- it has cycles exactly where it isn't refused
-      no_cycles : x.cycles ≡ 0 → eqb done_on.refusal 0 ≡ false
-      no_cycles z = go (eqb done_on.refusal 0) refl
-        where
-          go : (b : Bool) → eqb done_on.refusal 0 ≡ b → b ≡ false
-          go false t = refl
-          go true t =
-              let low = (granted_costs p image mem m (grant_of m) l li (eqb-true done_on.refusal 0 t)).0 in
-              let none : done_on.cycles ≡ 0 = sym (ap (λ (y : Performed). y.cycles) i) ∙ z in
-              absurd (omega (arith, low, none))
-
-      some_cycles : (x.cycles ≡ 0 → ⊥) → done_on.refusal ≡ 0
-      some_cycles n = go (eqb done_on.refusal 0) refl
-        where
-          go : (b : Bool) → eqb done_on.refusal 0 ≡ b → done_on.refusal ≡ 0
-          go true t = eqb-true done_on.refusal 0 t
-          go false t = absurd (n (ap (λ (y : Performed). y.cycles) i ∙ sym (ap (λ (y : Execution). y.cycles) (refused_is (grant_of m) t))))
-
-      pub step_refused : x.cycles ≡ 0
-          → ◌≡◌ {A = Progress} (record { refusal = 5; cycles = 0; ends0 = 0; ends1 = 0; machine = x.machine; memory = x.memory }) (step_of p image mem m)
+      pub step_refused : eqb x.refusal 0 ≡ false → nothing_done x.refusal x.machine x.memory ≡ step_of p image mem m
       unfolding stored_in
-      step_refused z =
-          let same : refused_of m ≡ done_on = refused_is (grant_of m) (no_cycles z) in
-          ap (λ (y : Performed). record { refusal = 5; cycles = 0; ends0 = 0; ends1 = 0; machine = y.machine; memory = y.memory }) (i ∙ ap (performed_by m mem) (sym same))
+      step_refused t =
+          let same : refused_of m ≡ done_on = refused_is (grant_of m) (sym (ap (λ (y : Performed). eqb y.refusal 0) i) ∙ t) in
+          ap (λ (y : Performed). nothing_done y.refusal y.machine y.memory) (i ∙ ap (performed_by m mem) (sym same))
           ∙ sym (clocked ∙ ap (λ (y : Execution). clocked_on m mem (record { done = y; ends1 = 0 })) (sym same) ∙ unclocked m mem)
 
-      pub step_taken : (r : Ran) → (x.cycles ≡ 0 → ⊥) → r ≡ span_of x.cycles x.machine
+      pub step_taken : (r : Ran) → x.refusal ≡ 0 → r ≡ span_of x.cycles x.machine
           → ◌≡◌ {A = Progress} (record { refusal = 0; cycles = x.cycles; ends0 = r.ends0; ends1 = r.ends1; machine = r.machine; memory = x.memory }) (step_of p image mem m)
       unfolding clocked_on
-      step_taken r n s = rw (clocked, s, i, zero-add (span_of done_on.cycles done_on.machine).ends1, some_cycles n)
+      step_taken r z s =
+          let none : done_on.refusal ≡ 0 = sym (ap (λ (y : Performed). y.refusal) i) ∙ z in
+          rw (clocked, s, i, zero-add (span_of done_on.cycles done_on.machine).ends1, none)
 
 -- ---- the last pins
 -- what is done on compared pins, where it is not refused
@@ -165,10 +146,10 @@ action_taken p image mem m d =
     d
 
 -- what is done leaves them
-pub done_leaves : (p : Pins) (image mem : List ℕ) (m : Machine) (g : Grant) → (granted_or p image mem m g).machine.last3 ≡ m.last3
+pub done_leaves : (p : Pins) (image mem : List ℕ) (m : Machine) (g : Option ℕ) → (granted_or p image mem m g).machine.last3 ≡ m.last3
 unfolding granted_or
-done_leaves p image mem m grant.Nothing = (execute_leaves p image mem m).last3_left
-done_leaves p image mem m (grant.Request n) = entered_leaves m image n
+done_leaves p image mem m None = (execute_leaves p image mem m).last3_left
+done_leaves p image mem m (Some n) = entered_leaves m image n
 
 -- so after a step that is not refused they are those given
 pub step_last : (p : Pins) (image mem : List ℕ) (m : Machine) → (step_of p image mem m).refusal ≡ 0 → (step_of p image mem m).machine.last3 ≡ p.port3

@@ -6,19 +6,18 @@ use native.Mathlib.Omega.{arith}
 use lib.Dec.{eqb, ltb, leb, leb→le}
 use lib.ListN.{set}
 use borrow.Author.Tests.{eqb-true}
+use Rattle.std.specs.Prelude.{Option, Some, None}
 use Rattle.word.specs.Words.{plus}
 use Rattle.word.proofs.Computed.{by_test, and_left, and_right}
 use Rattle.word.proofs.Iterate.{iter_zero}
 use Rattle.opcodes.specs.Map.{entry_of}
-use Rattle.opcodes.specs.declared.Entry.{Entry}
-use Rattle.opcodes.specs.declared.Entry.TheVariants as entry
+use Rattle.opcodes.specs.declared.Kind.{Kind}
 use Rattle.machine.specs.Memory.{program_byte, data_start, data_stored, stored_from, stored_in, list_of}
 use Rattle.machine.specs.Clock.{cycle_of, span_of}
 use Rattle.machine.specs.Legal.{Legal}
 use Rattle.machine.specs.declared.Machine.{Machine}
 use Rattle.machine.specs.declared.Pins.{Pins}
-use Rattle.machine.specs.declared.Stores.{Stores}
-use Rattle.machine.specs.declared.Stores.TheVariants.{Nothing, At}
+use Rattle.machine.specs.Memory.{Stores}
 use Rattle.machine.proofs.Lens.{span_within}
 use Rattle.machine.proofs.Legal.{LegalPins, AllBytes, span_legal}
 use Rattle.deeds.proofs.Fits.{AllRead}
@@ -27,8 +26,6 @@ use Rattle.execute.proofs.Legal.{FitStores, Sound, execute_sound}
 use Rattle.execute.proofs.Theorems.{undefined_refused, costs_6_to_20}
 use Rattle.interrupts.specs.Edges.{compared_of}
 use Rattle.interrupts.specs.Grants.{grant_of}
-use Rattle.interrupts.specs.declared.grants.Grant.{Grant}
-use Rattle.interrupts.specs.declared.grants.Grant.TheVariants as grant
 use Rattle.interrupts.proofs.Legal.{compared_legal, compared_ends, entered_legal, entered_fits}
 use Rattle.step.specs.Step.{Progress, Action, granted_or, act_on, action_of, clocked_on, step_of}
 use Rattle.step.specs.Run.{nothing_done}
@@ -51,8 +48,8 @@ from_read kind mem a (v ∷ vs) all h = from_read kind (data_stored kind mem a v
 
 pub stored_read : (kind : ℕ) (mem : List ℕ) (s : Stores) → AllRead mem → FitStores s → AllRead (stored_in kind mem s)
 unfolding stored_in
-stored_read kind mem Nothing all f = all
-stored_read kind mem (At a b) all f = from_read kind mem a (list_of b) all f.1
+stored_read kind mem None all f = all
+stored_read kind mem (Some (a, b)) all f = from_read kind mem a (list_of b) all f.1
 
 -- ---- what is done
 -- it is not refused, and then costs 6 to 63 cycles, or it is
@@ -66,20 +63,20 @@ module _ (p : Pins) (image mem : List ℕ) where
   execute_costs : (m : Machine) → AllRead image → Costs (execute_of p image mem m)
   execute_costs m all = go (entry_of (program_byte image m.pc)) refl
     where
-      go : (e : Entry) → entry_of (program_byte image m.pc) ≡ e → Costs (execute_of p image mem m)
-      go entry.Blank e d = five_not_0 (sym (ap (λ (x : Execution). x.refusal) (undefined_refused p image mem m e)) ∙ d)
-      go (entry.Of k) e d = let c = costs_6_to_20 p image mem m all e in (c.0, omega (arith, c.1))
+      go : (e : Option Kind) → entry_of (program_byte image m.pc) ≡ e → Costs (execute_of p image mem m)
+      go None e d = five_not_0 (sym (ap (λ (x : Execution). x.refusal) (undefined_refused p image mem m e)) ∙ d)
+      go (Some k) e d = let c = costs_6_to_20 p image mem m all e in (c.0, omega (arith, c.1))
 
-  pub granted_costs : (m : Machine) (g : Grant) → Legal m → AllRead image → Costs (granted_or p image mem m g)
+  pub granted_costs : (m : Machine) (g : Option ℕ) → Legal m → AllRead image → Costs (granted_or p image mem m g)
   unfolding granted_or
-  granted_costs m grant.Nothing l all = execute_costs m all
-  granted_costs m (grant.Request n) l all =
+  granted_costs m None l all = execute_costs m all
+  granted_costs m (Some n) l all =
       λ d. (leb→le 6 m.cost (and_left (leb 6 m.cost) (leb m.cost 63) l.cost), leb→le m.cost 63 (and_right (leb 6 m.cost) (leb m.cost 63) l.cost))
 
-  pub granted_sound : (m : Machine) (g : Grant) → Legal m → LegalPins p → AllRead image → AllRead mem → Sound (granted_or p image mem m g)
+  pub granted_sound : (m : Machine) (g : Option ℕ) → Legal m → LegalPins p → AllRead image → AllRead mem → Sound (granted_or p image mem m g)
   unfolding granted_or
-  granted_sound m grant.Nothing l lp li lm = execute_sound p image mem m l lp li lm
-  granted_sound m (grant.Request n) l lp li lm = record { legal = entered_legal image n l li; fit = entered_fits m image n l }
+  granted_sound m None l lp li lm = execute_sound p image mem m l lp li lm
+  granted_sound m (Some n) l lp li lm = record { legal = entered_legal image n l li; fit = entered_fits m image n l }
 
 -- an action is refused, and is nothing at all, or isn't
 pub data Act (m : Machine) (a : Action) : Type 0 where

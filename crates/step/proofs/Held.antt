@@ -12,7 +12,7 @@ use Rattle.machine.proofs.Legal.{LegalPins}
 use Rattle.deeds.proofs.Fits.{AllRead}
 use Rattle.interrupts.specs.Edges.{compared_of}
 use Rattle.interrupts.specs.Grants.{grant_of}
-use Rattle.interrupts.specs.declared.grants.Grant.TheVariants as grant
+use Rattle.std.specs.Prelude.{Option, Some, None}
 use Rattle.interrupts.proofs.Held.{compare_releases_none, entry_releases_none}
 use Rattle.execute.proofs.Leaves.{ei_alone_releases}
 use Rattle.machine.proofs.HeldSpan.{span_releases_none}
@@ -38,7 +38,7 @@ module _ (p : Pins) (image mem : List ℕ) (m : Machine) (l : Legal m) (lp : Leg
       rw (action_taken p image mem m taken) (span_releases_none x.machine sound.legal x.cycles)
 
   -- an executed instruction: exactly where it is EI, opcode 9F, or IRQ was released before
-  pub step_releases_by_ei : grant_of compared ≡ grant.Nothing → (step_of p image mem m).refusal ≡ 0
+  pub step_releases_by_ei : grant_of compared ≡ None → (step_of p image mem m).refusal ≡ 0
       → (step_of p image mem m).machine.released ≡ eqb (program_byte image m.pc) 0x9F || m.released
   unfolding granted_or
   step_releases_by_ei g taken =
@@ -48,7 +48,7 @@ module _ (p : Pins) (image mem : List ℕ) (m : Machine) (l : Legal m) (lp : Leg
       step_as_done taken ∙ executed ∙ rw (left.pc_left, compare_releases_none m p.port3)
 
   -- a grant: never
-  pub grant_releases_none : {n : ℕ} → grant_of compared ≡ grant.Request n → (step_of p image mem m).refusal ≡ 0
+  pub grant_releases_none : {n : ℕ} → grant_of compared ≡ Some n → (step_of p image mem m).refusal ≡ 0
       → (step_of p image mem m).machine.released ≡ m.released
   unfolding granted_or
   grant_releases_none {n} g taken =

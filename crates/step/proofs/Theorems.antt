@@ -7,10 +7,11 @@ use native.Mathlib.Decide.{dec_lt}
 use native.Mathlib.Omega.{arith}
 use lib.Dec.{T, eqb, ltb}
 use borrow.Author.Tests.{eqb-true, eqb-false, ltb-true, lt-ltb}
+use Rattle.std.specs.Prelude.{Option, Some, None}
 use Rattle.word.proofs.Computed.{by_test}
 use Rattle.word.specs.Iter.{iter}
 use Rattle.word.proofs.Iterate.{iter_zero, iter_suc}
-use Rattle.timers.proofs.Cycles.{both_true}
+use Rattle.std.proofs.lemmas.Bool.{and_parts}
 use Rattle.machine.specs.Legal.{Legal}
 use Rattle.machine.specs.declared.Machine.{Machine}
 use Rattle.machine.specs.declared.Pins.{Pins}
@@ -18,14 +19,11 @@ use Rattle.machine.proofs.Legal.{LegalPins}
 use Rattle.deeds.proofs.Fits.{AllRead}
 use Rattle.opcodes.specs.Map.{entry_of}
 use Rattle.opcodes.specs.Instruction.{defined}
-use Rattle.opcodes.specs.declared.Entry.{Entry}
-use Rattle.opcodes.specs.declared.Entry.TheVariants as entry
 use Rattle.opcodes.specs.declared.Kind.{Kind}
 use Rattle.machine.specs.Memory.{program_byte}
 use Rattle.execute.specs.Execute.{code_at}
 use Rattle.interrupts.specs.Edges.{compared_of}
 use Rattle.interrupts.specs.Grants.{grant_of}
-use Rattle.interrupts.specs.declared.grants.Grant.TheVariants as grant
 use Rattle.step.specs.Step.{Progress, clocked_on, step_of}
 use Rattle.numbers.specs.Numbers.{refused_budget, budget_most}
 use Rattle.step.specs.Run.{nothing_done, goes_on, one_more, steps_of, budget_refusal, run_of}
@@ -77,7 +75,7 @@ module _ (p : Pins) (image : List ℕ) (lp : LegalPins p) (li : AllRead image) w
         let both = step_legal r.memory r.machine k.legal k.bytes in
         by_test (Kept (suc turns)) (eqb r.refusal 0 && ltb r.cycles budget)
         (λ t.
-        let on = both_true (eqb r.refusal 0) (ltb r.cycles budget) t in
+        let on = and_parts (eqb r.refusal 0) (ltb r.cycles budget) t in
         let low = ltb-true r.cycles budget on.1 in
         record {
           legal = both.0;
@@ -139,36 +137,36 @@ module _ (p : Pins) (image : List ℕ) (lp : LegalPins p) (li : AllRead image) w
 
 -- Refusal 5 is given exactly where nothing is granted, the edges counted, and the opcode is undefined.
 module _ (p : Pins) (image mem : List ℕ) (m : Machine) (l : Legal m) where
-  pub undefined_refused : grant_of (compared_of m p.port3).machine ≡ grant.Nothing → entry_of (program_byte image m.pc) ≡ entry.Blank
+  pub undefined_refused : grant_of (compared_of m p.port3).machine ≡ None → entry_of (program_byte image m.pc) ≡ None
       → step_of p image mem m ≡ nothing_done 5 m mem
   unfolding step_of code_at
   undefined_refused g e = ap (clocked_on m mem) (blank_refused p image mem m l g e) ∙ unclocked m mem
 
-  pub defined_taken : {k : Kind} → grant_of (compared_of m p.port3).machine ≡ grant.Nothing → entry_of (program_byte image m.pc) ≡ entry.Of k
+  pub defined_taken : {k : Kind} → grant_of (compared_of m p.port3).machine ≡ None → entry_of (program_byte image m.pc) ≡ Some k
       → (step_of p image mem m).refusal ≡ 0
   unfolding step_of clocked_on code_at
   defined_taken g e = kind_taken p image mem m l g e
 
-  pub granted_taken : {n : ℕ} → grant_of (compared_of m p.port3).machine ≡ grant.Request n → (step_of p image mem m).refusal ≡ 0
+  pub granted_taken : {n : ℕ} → grant_of (compared_of m p.port3).machine ≡ Some n → (step_of p image mem m).refusal ≡ 0
   unfolding step_of clocked_on
   granted_taken g = request_taken p image mem m l g
 
   -- the same, told by whether the opcode is defined
-  pub told_refused : grant_of (compared_of m p.port3).machine ≡ grant.Nothing → defined (entry_of (program_byte image m.pc)) ≡ false
+  pub told_refused : grant_of (compared_of m p.port3).machine ≡ None → defined (entry_of (program_byte image m.pc)) ≡ false
       → step_of p image mem m ≡ nothing_done 5 m mem
   told_refused g d = go (entry_of (program_byte image m.pc)) refl
     where
-      go : (e : Entry) → entry_of (program_byte image m.pc) ≡ e → step_of p image mem m ≡ nothing_done 5 m mem
-      go entry.Blank e = undefined_refused g e
-      go (entry.Of k) e = absurd (subst T (sym (ap defined e) ∙ d) tt)
+      go : (e : Option Kind) → entry_of (program_byte image m.pc) ≡ e → step_of p image mem m ≡ nothing_done 5 m mem
+      go None e = undefined_refused g e
+      go (Some k) e = absurd (subst T (sym (ap defined e) ∙ d) tt)
 
-  pub told_taken : grant_of (compared_of m p.port3).machine ≡ grant.Nothing → defined (entry_of (program_byte image m.pc)) ≡ true
+  pub told_taken : grant_of (compared_of m p.port3).machine ≡ None → defined (entry_of (program_byte image m.pc)) ≡ true
       → (step_of p image mem m).refusal ≡ 0
   told_taken g d = go (entry_of (program_byte image m.pc)) refl
     where
-      go : (e : Entry) → entry_of (program_byte image m.pc) ≡ e → (step_of p image mem m).refusal ≡ 0
-      go entry.Blank e = absurd (subst T (sym d ∙ ap defined e) tt)
-      go (entry.Of k) e = defined_taken g e
+      go : (e : Option Kind) → entry_of (program_byte image m.pc) ≡ e → (step_of p image mem m).refusal ≡ 0
+      go None e = absurd (subst T (sym d ∙ ap defined e) tt)
+      go (Some k) e = defined_taken g e
 
 -- "Budget 0 changes nothing", whatever the pins
 pub run_nothing : (p : Pins) (image mem : List ℕ) (m : Machine) → run_of p image mem m 0 ≡ nothing_done 0 m mem

@@ -9,8 +9,7 @@ use Rattle.execute.specs.Execute.{Execution, refused_of, memory_after, execute_o
 use Rattle.interrupts.specs.Edges.{Comparison, compared_of}
 use Rattle.interrupts.specs.Grants.{grant_of}
 use Rattle.interrupts.specs.Entry.{entered_of}
-use Rattle.interrupts.specs.declared.grants.Grant.{Grant}
-use Rattle.interrupts.specs.declared.grants.Grant.TheVariants as grant
+use Rattle.std.specs.Prelude.{Option, Some, None}
 
 -- what a step or a run comes to: 0 or a refusal's number, its cycles, "each timer's ends, edge ends too", the machine, data memory
 pub record Progress : Type 0 where
@@ -26,9 +25,9 @@ abbrev pub costing_entry : ℕ → Stacked → Execution
 costing_entry cost s = record { refusal = 0; cycles = cost; stores = s.stores; machine = s.machine }
 
 -- "Grant an interrupt, or else execute one instruction." A granted step looks at no opcode.
-unfoldable pub granted_or : Pins → List ℕ → List ℕ → Machine → Grant → Execution
-granted_or p image mem m grant.Nothing = execute_of p image mem m
-granted_or p image mem m (grant.Request n) = costing_entry m.cost (entered_of image m n)
+unfoldable pub granted_or : Pins → List ℕ → List ℕ → Machine → Option ℕ → Execution
+granted_or p image mem m None = execute_of p image mem m
+granted_or p image mem m (Some n) = costing_entry m.cost (entered_of image m n)
 
 -- what is done on compared pins, and T1's ends by the edges alone
 pub record Action : Type 0 where

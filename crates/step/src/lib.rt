@@ -1,216 +1,171 @@
-// The whole chip: one step, the bounded run, the span (01 "One step"). A `Machine` goes by value; below `step` and `run` it is lent.
+// The whole chip: one step, the bounded run, the span (01 "One step").
 #![tactic(auto)]
 
 ghost use Rattle.std.specs.Prelude.{◌≡◌, true, false, List, ℕ, ◌≤◌};
 ghost use Rattle.numbers.specs.Numbers.{refused_opcode, budget_most};
 ghost use Rattle.machine.specs.Legal.{Legal};
 ghost use Rattle.machine.specs.Clock.{span_of};
-ghost use Rattle.lent.specs.View.{core_in, machine_in};
-ghost use Rattle.execute.specs.ForCode.{performed, performed_by};
+ghost use Rattle.clock.specs.ForCode.{ran_of};
+ghost use Rattle.execute.specs.ForCode.{left_with, performed_by};
 ghost use Rattle.interrupts.specs.Grants.{grant_of};
 ghost use Rattle.step.specs.Step.{granted_or, step_of};
 ghost use Rattle.step.specs.Run.{nothing_done, steps_of, run_of};
-ghost use Rattle.step.specs.ForCode.{progress_in, is_refused_of, progress_of, ran_by};
+ghost use Rattle.step.specs.ForCode.{stepped_in, run_in, is_refused_of};
 
-use interrupts::grants::Grant;
-use lent::Rest;
-use machine::{File, Machine, Pins, names};
+use clock::Ends;
+use machine::{Machine, Pins, names};
+use numbers::Refusal;
 
-// What a step or a run comes to in numbers, where the machine and the data memory are lent.
+// What whole steps come to in numbers.
 #[derive(Clone, Copy)]
 pub struct Tally {
-    pub refusal: u8,
     pub cycles: u32,
     pub ends0: u32,
     pub ends1: u32,
 }
 
-// What a step or a run comes to, with the machine by value; the data memory is lent.
+impl Tally {
+    const NOTHING: Tally = Tally {
+        cycles: 0,
+        ends0: 0,
+        ends1: 0,
+    };
+}
+
+// A run: what its whole steps come to, and whether it reached its budget or was refused.
 #[derive(Clone, Copy)]
 pub struct Progress {
-    pub refusal: u8,
-    pub cycles: u32,
-    pub ends0: u32,
-    pub ends1: u32,
-    pub machine: Machine,
+    pub done: Tally,
+    pub ended: Result<(), Refusal>,
 }
 
-// A machine after some cycles and nothing else, and each timer's ends in them.
-#[derive(Clone, Copy)]
-pub struct Ran {
-    pub ends0: u32,
-    pub ends1: u32,
-    pub machine: Machine,
-}
-
-// A grant, or else an instruction, where the pins have been compared: its cycles, or 0 where it is refused.
-fn act(regs: &mut File, rest: &mut Rest, pins: Pins, image: &[u8], mem: &mut [u8]) -> u32
-    ensures { performed (machine_in regs.new rest.new) mem.new result ≡ performed_by (machine_in regs.old rest.old) mem.old (granted_or pins image.now mem.old (machine_in regs.old rest.old) (grant_of (machine_in regs.old rest.old))) }
+// A grant, or else an instruction, where the pins have been compared: its cycles.
+fn act(m: &mut Machine, pins: Pins, image: &[u8], mem: &mut [u8]) -> Result<u32, Refusal>
+    ensures { left_with m.new mem.new result ≡ performed_by m.old mem.old (granted_or pins image.now mem.old m.old (grant_of m.old)) }
 {
-    let irq = machine::file::held(regs, names::IRQ);
-    let imr = machine::file::held(regs, names::IMR);
-    let ipr = machine::file::held(regs, names::IPR);
-    let g = interrupts::grants::granted(irq, imr, ipr);
-    match g {
-        Grant::Nothing => perform::execute_here(regs, rest, pins, mem, image),
-        Grant::Request(n) => {
-            let cost = lent::cost(rest);
-            interrupts::entry::enter(regs, rest, mem, image, n);
-            cost as u32
+    let irq = m.held(names::IRQ);
+    let imr = m.held(names::IMR);
+    let ipr = m.held(names::IPR);
+    match interrupts::grants::granted(irq, imr, ipr) {
+        None => perform::execute_here(m, pins, mem, image),
+        Some(n) => {
+            let cost = m.cost as u32;
+            interrupts::entry::enter(m, mem, image, n);
+            Ok(cost)
         }
     }
 }
 
-// One step on a lent machine, where the pins given are the last already, so that there is nothing to compare.
-fn step_in(regs: &mut File, rest: &mut Rest, pins: Pins, image: &[u8], mem: &mut [u8]) -> Tally
-    requires legal { Legal (machine_in regs.old rest.old) }
-    requires rest_value { (core_in rest.old).last3 ≡ pins.port3 }
-    ensures { progress_in (machine_in regs.new rest.new) mem.new result ≡ step_of pins image.now mem.old (machine_in regs.old rest.old) }
+// One step, where the pins given are the last already, so that there is nothing to compare.
+fn step_in(m: &mut Machine, pins: Pins, image: &[u8], mem: &mut [u8]) -> Result<Tally, Refusal>
+    requires legal { Legal m.old }
+    requires rest_value { m.old.last3 ≡ pins.port3 }
+    ensures { stepped_in m.new mem.new result ≡ step_of pins image.now mem.old m.old }
 {
-    let cycles = act(regs, rest, pins, image, mem);
-    if cycles == 0 {
-        return Tally {
-            refusal: numbers::REFUSED_OPCODE, // nothing was stored
-            cycles: 0,
-            ends0: 0,
-            ends1: 0,
-        };
-    }
-    let e = clock::span(regs, rest, cycles);
-    Tally {
-        refusal: numbers::DONE,
+    let cycles = act(m, pins, image, mem)?;
+    let e = clock::span(m, cycles);
+    Ok(Tally {
         cycles,
         ends0: e.ends0,
         ends1: e.ends1,
-    }
+    })
 }
 
 // Whether the next step is refused: nothing is granted, the edges counted, and the opcode is undefined. That is known before anything is
 // stored.
-fn is_refused(regs: &File, rest: &Rest, pins: Pins, image: &[u8]) -> bool
-    requires { Legal (machine_in regs.now rest.now) }
-    ensures value { result ≡ is_refused_of pins image.now (machine_in regs.now rest.now) }
-    ensures refused { result ≡ true → (mem : List ℕ) → step_of pins image.now mem (machine_in regs.now rest.now) ≡ nothing_done refused_opcode (machine_in regs.now rest.now) mem }
-    ensures taken { result ≡ false → (mem : List ℕ) → (step_of pins image.now mem (machine_in regs.now rest.now)).refusal ≡ 0 }
+fn is_refused(m: &Machine, pins: Pins, image: &[u8]) -> bool
+    requires { Legal m.now }
+    ensures value { result ≡ is_refused_of pins image.now m.now }
+    ensures refused { result ≡ true → (mem : List ℕ) → step_of pins image.now mem m.now ≡ nothing_done refused_opcode m.now mem }
+    ensures taken { result ≡ false → (mem : List ℕ) → (step_of pins image.now mem m.now).refusal ≡ 0 }
 {
-    let irq = interrupts::edges::requests(regs, rest, pins.port3);
-    let imr = machine::file::held(regs, names::IMR);
-    let ipr = machine::file::held(regs, names::IPR);
-    let standing = interrupts::grants::standing(irq, imr);
-    let g = interrupts::grants::highest(standing, ipr);
-    match g {
-        Grant::Nothing => {
-            let pc = lent::pc(rest);
-            let op = machine::memory::program(image, pc);
-            !opcodes::map::is_defined(op)
-        }
-        Grant::Request(_) => false,
+    let irq = interrupts::edges::requests(m, pins.port3);
+    let standing = interrupts::grants::standing(irq, m.held(names::IMR));
+    match interrupts::grants::highest(standing, m.held(names::IPR)) {
+        None => !opcodes::map::is_defined(machine::memory::program(image, m.pc)),
+        Some(_) => false,
     }
 }
 
 // Steps in turn until their cycles reach the budget, or one is refused. "A run holds the pins": after the first step they are the last, so
-// they are compared once, before the steps, where the first is not refused.
-fn steps(
-    regs: &mut File,
-    rest: &mut Rest,
-    pins: Pins,
-    image: &[u8],
-    mem: &mut [u8],
-    budget: u32,
-) -> Tally
-    requires legal { Legal (machine_in regs.old rest.old) }
+// they are compared once, before the steps, where the first is not refused. (The loop goes by cycles, and counts no index.)
+fn steps(m: &mut Machine, pins: Pins, image: &[u8], mem: &mut [u8], budget: u32) -> Progress
+    requires legal { Legal m.old }
     requires budget_le_budget_most { budget ≤ budget_most }
-    ensures { progress_in (machine_in regs.new rest.new) mem.new result ≡ steps_of pins image.now mem.old (machine_in regs.old rest.old) budget }
+    ensures { run_in m.new mem.new result ≡ steps_of pins image.now mem.old m.old budget }
 {
     if budget == 0 {
-        return Tally {
-            refusal: numbers::DONE,
-            cycles: 0,
-            ends0: 0,
-            ends1: 0,
+        return Progress {
+            done: Tally::NOTHING,
+            ended: Ok(()),
         };
     }
-    let refused = is_refused(regs, rest, pins, image);
-    if refused {
-        return Tally {
-            refusal: numbers::REFUSED_OPCODE,
-            cycles: 0,
-            ends0: 0,
-            ends1: 0,
+    if is_refused(m, pins, image) {
+        return Progress {
+            done: Tally::NOTHING,
+            ended: Err(Refusal::Opcode),
         };
     }
     let mut cycles: u32 = 0;
     let mut ends0: u32 = 0;
-    let mut ends1 = interrupts::edges::compare(regs, rest, pins.port3);
+    let mut ends1 = interrupts::edges::compare(m, pins.port3);
     while cycles < budget {
-        let s = step_in(regs, rest, pins, image, mem);
-        if s.refusal != numbers::DONE {
-            return Tally {
-                refusal: s.refusal,
-                cycles,
-                ends0,
-                ends1,
-            };
+        match step_in(m, pins, image, mem) {
+            Ok(s) => {
+                cycles += s.cycles;
+                ends0 += s.ends0;
+                ends1 += s.ends1;
+            }
+            Err(e) => {
+                return Progress {
+                    done: Tally {
+                        cycles,
+                        ends0,
+                        ends1,
+                    },
+                    ended: Err(e),
+                };
+            }
         }
-        cycles = cycles + s.cycles;
-        ends0 = ends0 + s.ends0;
-        ends1 = ends1 + s.ends1;
     }
-    Tally {
-        refusal: numbers::DONE,
-        cycles,
-        ends0,
-        ends1,
+    Progress {
+        done: Tally {
+            cycles,
+            ends0,
+            ends1,
+        },
+        ended: Ok(()),
     }
 }
 
 // The bounded run.
-pub fn run(m: Machine, pins: Pins, image: &[u8], mem: &mut [u8], budget: u32) -> Progress
-    requires { Legal m }
-    ensures { progress_of mem.new result ≡ run_of pins image.now mem.old m budget }
+pub fn run(m: &mut Machine, pins: Pins, image: &[u8], mem: &mut [u8], budget: u32) -> Progress
+    requires { Legal m.old }
+    ensures { run_in m.new mem.new result ≡ run_of pins image.now mem.old m.old budget }
 {
     if numbers::BUDGET_MOST < budget {
         return Progress {
-            refusal: numbers::REFUSED_BUDGET,
-            cycles: 0,
-            ends0: 0,
-            ends1: 0,
-            machine: m,
+            done: Tally::NOTHING,
+            ended: Err(Refusal::Budget),
         };
     }
-    let mut regs = m.regs;
-    let mut rest = lent::lend(m);
-    let w = steps(&mut regs, &mut rest, pins, image, mem, budget);
-    let after = lent::machine_of(regs, &rest);
-    Progress {
-        refusal: w.refusal,
-        cycles: w.cycles,
-        ends0: w.ends0,
-        ends1: w.ends1,
-        machine: after,
-    }
+    steps(m, pins, image, mem, budget)
 }
 
 // One step. It costs a cycle at least, so it is the run that reaches a budget of one.
-pub fn step(m: Machine, pins: Pins, image: &[u8], mem: &mut [u8]) -> Progress
-    requires { Legal m }
-    ensures { progress_of mem.new result ≡ step_of pins image.now mem.old m }
+pub fn step(m: &mut Machine, pins: Pins, image: &[u8], mem: &mut [u8]) -> Result<Tally, Refusal>
+    requires { Legal m.old }
+    ensures { stepped_in m.new mem.new result ≡ step_of pins image.now mem.old m.old }
 {
-    run(m, pins, image, mem, 1)
+    let one = run(m, pins, image, mem, 1);
+    one.ended?;
+    Ok(one.done)
 }
 
 // n cycles, in one move by division.
-pub fn span(m: Machine, n: u32) -> Ran
-    requires { Legal m }
-    ensures { ran_by result ≡ span_of n m }
+pub fn span(m: &mut Machine, n: u32) -> Ends
+    requires { Legal m.old }
+    ensures { ran_of m.new result ≡ span_of n m.old }
 {
-    let mut regs = m.regs;
-    let mut rest = lent::lend(m);
-    let e = clock::long_span(&mut regs, &mut rest, n);
-    let machine = lent::machine_of(regs, &rest);
-    Ran {
-        ends0: e.ends0,
-        ends1: e.ends1,
-        machine,
-    }
+    clock::long_span(m, n)
 }

@@ -1,34 +1,38 @@
 -- Cycles are ticks of the divider, and ticks of both timers are ticks of each. Nothing here looks into a tick or an end.
-use mathlib.Core.Path.{◌≡◌, refl, ap, sym, ◌∙◌, subst}
-use mathlib.Core.Bool.{Bool, true, false, ◌&&◌}
+use mathlib.Core.Path.{◌≡◌, refl, ap, sym, ◌∙◌}
+use mathlib.Core.Bool.{false}
 use Prim.Native.Nat.{ℕ, zero, suc, ◌+◌, ◌/◌, ◌%◌, ◌<◌}
 use native.Mathlib.Decide.{dec_lt}
 use native.Mathlib.Omega.{arith}
-use lib.Dec.{T, eqb}
+use lib.Dec.{eqb}
 use borrow.Author.Tests.{ne_eqb}
 use Rattle.word.specs.Iter.{iter}
-use Rattle.word.specs.Choose.{pick}
+use Rattle.std.specs.Prelude.{Option, Some, None, IfSome}
 use Rattle.timers.specs.Timer.{moves}
 use Rattle.timers.specs.Clock.{tick_both, cycle, cycles, begun, at_divider, end_of, end0_of, LegalSetting, LegalMoving}
-use Rattle.timers.specs.declared.ticks.ShortCount.{ShortCount}
-use Rattle.timers.specs.declared.clock.ShortMove.{ShortMove}
+use Rattle.timers.specs.declared.Timer.{Timer}
+use Rattle.timers.specs.declared.Setup.{Setup}
+use Rattle.timers.specs.declared.Counting.{Counting}
+use Rattle.timers.specs.declared.clock.Counts.{Counts}
 use Rattle.timers.specs.declared.Source.{Source}
 use Rattle.timers.specs.declared.Source.TheVariants.{Divider}
 use Rattle.timers.specs.declared.Setting.{Setting}
 use Rattle.timers.specs.declared.Moving.{Moving}
 use Rattle.timers.specs.declared.Spanned.{Spanned}
 use Rattle.word.proofs.Iterate.{iter_zero, iter_suc, iter_both}
-use Rattle.timers.proofs.Division.{ticks_zero, ticks_suc, ticks_few}
+use Rattle.timers.proofs.Division.{at, ticks_zero, ticks_suc, ticks_few}
 use Rattle.timers.proofs.Ends.{ends_swap}
-use Rattle.timers.specs.ForCode.{more, ticks, few_of, as_before, few_cycles}
+use Rattle.timers.specs.ForCode.{more, ticks, few_of, counts_of, few_cycles}
 
-pub both_true : (a b : Bool) → a && b ≡ true → (a ≡ true) × (b ≡ true)
-both_true true b e = (refl, e)
-both_true false b e = (e, absurd (subst T (sym e) tt))
-
-pub and_true : (b : Bool) → b && true ≡ b
-and_true true = refl
-and_true false = refl
+-- where no count ends, the counts come to these, and nothing else moves
+abbrev pub counting : Moving → Counts → Moving
+counting m x =
+    record {
+      divider = x.divider;
+      t0 = record { timer = x.t0; enabled = m.t0.enabled };
+      t1 = record { timer = x.t1; enabled = m.t1.enabled };
+      lines = m.lines;
+    }
 
 module _ (s : Setting) where
   -- the ticks of both timers are the ticks of each, with what the ends did
@@ -107,60 +111,23 @@ module _ (s : Setting) where
       (cycles_are_ticks (begun m) h n
       ∙ ap (λ (x : Spanned). at_divider x ((m.divider + n) % 4)) (ticks_apart Divider m ((m.divider + n) / 4)))
 
-  -- so few cycles that no count ends: what they make of each timer, and of both
-  abbrev pub few0 : ℕ → Moving → ShortCount
-  few0 n m = few_of (moves Divider s.t0 m.t0) s.t0.p ((m.divider + n) / 4) m.t0.timer
-
-  abbrev pub few1 : ℕ → Moving → ShortCount
-  few1 n m = few_of (moves Divider s.t1 m.t1) s.t1.p ((m.divider + n) / 4) m.t1.timer
-
-  abbrev both_few : ℕ → Moving → ShortMove
-  both_few n m = record { few = true; divider = (m.divider + n) % 4; t0 = (few0 n m).timer; t1 = (few1 n m).timer }
-
-  abbrev pub counting : Moving → ShortMove → Moving
-  counting m x =
-      record {
-        divider = x.divider;
-        t0 = record { timer = x.t0; enabled = m.t0.enabled };
-        t1 = record { timer = x.t1; enabled = m.t1.enabled };
-        lines = m.lines;
-      }
-
-  pub few_is : (n : ℕ) (m : Moving) → LegalSetting s → LegalMoving m → (few_cycles s n m).few ≡ true → cycles s n m ≡ begun (counting m (few_cycles s n m))
+  -- so few cycles that none does
+  pub few_is : (n : ℕ) (m : Moving) → LegalSetting s → LegalMoving m → IfSome (few_cycles s n m) (λ x. cycles s n m ≡ begun (counting m x))
   unfolding few_cycles
-  few_is n m ls lm f = go ((few0 n m).few && (few1 n m).few) refl f
+  few_is n m ls lm =
+      go (few_of (moves Divider s.t0 m.t0) s.t0.p k m.t0.timer) (few_of (moves Divider s.t1 m.t1) s.t1.p k m.t1.timer)
+      (ticks_few Divider s.t0 m.t0 k ls.setup0 lm.counting0)
+      (ticks_few Divider s.t1 m.t1 k ls.setup1 lm.counting1)
     where
-      go : (b : Bool) → (few0 n m).few && (few1 n m).few ≡ b → (pick b (both_few n m) (as_before m)).few ≡ true
-          → cycles s n m ≡ begun (counting m (pick b (both_few n m) (as_before m)))
-      go true e t =
-          let k = (m.divider + n) / 4 in
-          let each = both_true (few0 n m).few (few1 n m).few e in
-          rw (
-            cycles_apart m lm.divider_high n k ((m.divider + n) % 4) refl refl,
-            ticks_few Divider s.t0 m.t0 k ls.setup0 lm.counting0 each.0,
-            ticks_few Divider s.t1 m.t1 k ls.setup1 lm.counting1 each.1,
-            iter_zero (end0_of s.port s.t0),
-            iter_zero (end_of s.t1),
-          )
-      go false e t = absurd (subst T (sym t) tt)
+      k : ℕ
+      k = (m.divider + n) / 4
 
-  -- the same, case by case, as the code finds it
-  pub few_off : (n : ℕ) (m : Moving) → m.t0.enabled ≡ false → m.t1.enabled ≡ false
-      → ◌≡◌ {A = ShortMove} (record { few = true; divider = (m.divider + n) % 4; t0 = m.t0.timer; t1 = m.t1.timer }) (few_cycles s n m)
-  unfolding few_cycles few_of
-  few_off n m e0 e1 = rw (e0, e1)
+      Come : Setup → Counting → Option Timer → Type 0
+      Come t c o = IfSome o (λ x. ticks Divider t k c ≡ at c x.prescaler x.counter 0)
 
-  module _ (n : ℕ) (m : Moving) (a0 : ShortCount) (is0 : a0 ≡ few0 n m) where
-    pub few_not0 : a0.few ≡ false → as_before m ≡ few_cycles s n m
-    unfolding few_cycles
-    few_not0 f = rw (← is0, f)
-
-    module _ (a1 : ShortCount) (is1 : a1 ≡ few1 n m) (f0 : a0.few ≡ true) where
-      pub few_not1 : a1.few ≡ false → as_before m ≡ few_cycles s n m
-      unfolding few_cycles
-      few_not1 f = rw (← is0, ← is1, f0, f)
-
-      pub few_both : a1.few ≡ true
-          → ◌≡◌ {A = ShortMove} (record { few = true; divider = (m.divider + n) % 4; t0 = a0.timer; t1 = a1.timer }) (few_cycles s n m)
-      unfolding few_cycles
-      few_both f = rw (← is0, ← is1, f0, f)
+      go : (a b : Option Timer) → Come s.t0 m.t0 a → Come s.t1 m.t1 b
+          → IfSome (counts_of ((m.divider + n) % 4) a b) (λ x. cycles s n m ≡ begun (counting m x))
+      go None b f g = tt
+      go (Some a) None f g = tt
+      go (Some a) (Some b) f g =
+          rw (cycles_apart m lm.divider_high n k ((m.divider + n) % 4) refl refl, f, g, iter_zero (end0_of s.port s.t0), iter_zero (end_of s.t1))

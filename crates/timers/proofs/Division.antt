@@ -1,12 +1,15 @@
 -- The ticks of one timer, by division: each law is about the definition's ticks one by one, from whatever source they come.
-use mathlib.Core.Path.{◌≡◌, refl, ap, sym, ◌∙◌, subst}
-use mathlib.Core.Bool.{Bool, true, false, not, ◌||◌}
+use mathlib.Core.Path.{◌≡◌, refl, ap, sym, ◌∙◌}
+use mathlib.Core.Bool.{Bool, true, false}
 use Prim.Native.Nat.{ℕ, zero, suc, ◌+◌, ◌-◌, ◌*◌, ◌/◌, ◌%◌, ◌≤◌, ◌<◌}
 use native.Mathlib.Nat.{add-zero, sub-zero, zero-mul, mod-lt, div-lt_iff_lt-mul, mod-add-div', mul-pos}
 use native.Mathlib.Omega.{arith}
-use lib.Dec.{T, ltb}
+use lib.Dec.{ltb}
 use borrow.Author.Tests.{lt-ltb, ltb-true, ltb-false}
+use Rattle.std.specs.Prelude.{Option, Some, None, IfSome}
+use Rattle.std.proofs.lemmas.Option.{MatchOption-at_some, none-some}
 use Rattle.word.specs.Choose.{pick}
+use Rattle.word.proofs.Computed.{by_test}
 use Rattle.word.specs.Iter.{iter}
 use Rattle.timers.specs.Timer.{count_at, stopped, no_end, tick, moves, ticked, LegalSetup, LegalCounting}
 use Rattle.timers.specs.declared.Source.{Source}
@@ -14,7 +17,7 @@ use Rattle.timers.specs.declared.Setup.{Setup}
 use Rattle.timers.specs.declared.Counting.{Counting}
 use Rattle.timers.specs.declared.Ticked.{Ticked}
 use Rattle.word.proofs.Iterate.{iter_zero, iter_suc, iter_split, iter_fixed}
-use Rattle.timers.specs.ForCode.{more, ticks, is_short, shortly, few_to, turned_of, few_of}
+use Rattle.timers.specs.ForCode.{more, ticks, few_to, shortly, turned_of, few_of}
 use Rattle.timers.specs.declared.Timer.{Timer}
 
 -- the timer at other counts, with `e` ends behind it
@@ -171,51 +174,78 @@ module _ (by : Source) (s : Setup) (c : Counting) (goes : moves by s c ≡ true)
           ∙ ap (iter (k - c.timer.prescaler - s.p * (c.timer.counter - 1)) (more by s)) (reload by s c goes 0 a)
           ∙ fresh by s c goes ls.p_low a ls.n_low (k - c.timer.prescaler - s.p * (c.timer.counter - 1)) 1)
 
--- the same of so few ticks, and what it takes that they aren't
-pub ticks_shortly : (by : Source) (s : Setup) (c : Counting) (k : ℕ) → is_short by s k c ≡ true → ticks by s k c ≡ no_end (shortly by s k c)
-unfolding is_short shortly
-ticks_shortly by s c k h = go (moves by s c) refl h
-  where
-    go : (b : Bool) → moves by s c ≡ b → not b || ltb k c.timer.prescaler ≡ true
-        → ticks by s k c ≡ no_end (pick b (count_at c (c.timer.prescaler - k) c.timer.counter) c)
-    go true e t = ticks_low by s c e k (ltb-true k c.timer.prescaler t)
-    go false e t = ticks_off by s c k e
-
-pub not_shortly : (by : Source) (s : Setup) (c : Counting) (k : ℕ) → is_short by s k c ≡ false → (moves by s c ≡ true) × (c.timer.prescaler ≤ k)
-unfolding is_short
-not_shortly by s c k h = go (moves by s c) h
-  where
-    go : (b : Bool) → not b || ltb k c.timer.prescaler ≡ false → (b ≡ true) × (c.timer.prescaler ≤ k)
-    go true t = (refl, ltb-false k c.timer.prescaler t)
-    go false t = absurd (subst (λ (x : Bool). T x) t tt)
-
--- what is counting has come to t, and did not end
-abbrev came_to : Counting → Timer → Ticked
-came_to c t = no_end (count_at c t.prescaler t.counter)
-
--- so few ticks that the count doesn't end
+-- so few ticks that the count doesn't end: what is counting has come to t
 pub ticks_few : (by : Source) (s : Setup) (c : Counting) (k : ℕ) → LegalSetup s → LegalCounting c
-    → (few_of (moves by s c) s.p k c.timer).few ≡ true
-    → ticks by s k c
-    ≡ came_to c (few_of (moves by s c) s.p k c.timer).timer
+    → IfSome (few_of (moves by s c) s.p k c.timer) (λ t. ticks by s k c ≡ at c t.prescaler t.counter 0)
 unfolding few_of turned_of
-ticks_few by s c k ls lc f = go (moves by s c) refl f
+ticks_few by s c k ls lc =
+    by_test Come (moves by s c)
+    (λ e.
+    by_test Come (ltb k c.timer.prescaler) (λ h. ticks_low by s c e k (ltb-true _ _ h))
+    (λ h.
+    by_test Come (ltb (k - c.timer.prescaler) (s.p * (c.timer.counter - 1)))
+    (λ g. ticks_within by s c e k ls lc (ltb-false _ _ h) (ltb-true _ _ g))
+    (λ g. tt)))
+    (λ e. ticks_off by s c k e)
   where
-    turn : moves by s c ≡ true → c.timer.prescaler ≤ k → (b : Bool) → ltb (k - c.timer.prescaler) (s.p * (c.timer.counter - 1)) ≡ b
-        → (pick b (few_to (s.p - (k - c.timer.prescaler) % s.p) (c.timer.counter - 1 - (k - c.timer.prescaler) / s.p)) (record { few = false; timer = c.timer })).few ≡ true
-        → ticks by s k c
-        ≡ came_to c (pick b (few_to (s.p - (k - c.timer.prescaler) % s.p) (c.timer.counter - 1 - (k - c.timer.prescaler) / s.p)) (record { few = false; timer = c.timer })).timer
-    turn e past true h t = ticks_within by s c e k ls lc past (ltb-true (k - c.timer.prescaler) (s.p * (c.timer.counter - 1)) h)
-    turn e past false h t = absurd (subst T (sym t) tt)
+    Come : Option Timer → Type 0
+    Come o = IfSome o (λ t. ticks by s k c ≡ at c t.prescaler t.counter 0)
 
-    low : moves by s c ≡ true → (b : Bool) → ltb k c.timer.prescaler ≡ b
-        → (pick b (few_to (c.timer.prescaler - k) c.timer.counter) (turned_of s.p k c.timer)).few ≡ true
-        → ticks by s k c
-        ≡ came_to c (pick b (few_to (c.timer.prescaler - k) c.timer.counter) (turned_of s.p k c.timer)).timer
-    low e true h t = ticks_low by s c e k (ltb-true k c.timer.prescaler h)
-    low e false h t = turn e (ltb-false k c.timer.prescaler h) (ltb (k - c.timer.prescaler) (s.p * (c.timer.counter - 1))) refl t
+-- short, and not short, with what it takes
+pub few_shortly : (moving : Bool) (p k : ℕ) (t u : Timer) → shortly moving k t ≡ Some u → few_of moving p k t ≡ Some u
+unfolding few_of shortly
+few_shortly moving p k t u = go moving (ltb k t.prescaler)
+  where
+    go : (a b : Bool) → pick a (pick b (few_to (t.prescaler - k) t.counter) None) (Some t) ≡ Some u
+        → pick a (pick b (few_to (t.prescaler - k) t.counter) (turned_of p k t)) (Some t) ≡ Some u
+    go true true e = e
+    go true false e = absurd (none-some _ e)
+    go false b e = e
 
-    go : (b : Bool) → moves by s c ≡ b → (few_of b s.p k c.timer).few ≡ true
-        → ticks by s k c ≡ came_to c (few_of b s.p k c.timer).timer
-    go true e t = low e (ltb k c.timer.prescaler) refl t
-    go false e t = ticks_off by s c k e
+pub few_turned : (moving : Bool) (p k : ℕ) (t : Timer) → shortly moving k t ≡ None → few_of moving p k t ≡ turned_of p k t
+unfolding few_of shortly
+few_turned moving p k t = go moving (ltb k t.prescaler)
+  where
+    go : (a b : Bool) → pick a (pick b (few_to (t.prescaler - k) t.counter) None) (Some t) ≡ None
+        → pick a (pick b (few_to (t.prescaler - k) t.counter) (turned_of p k t)) (Some t) ≡ turned_of p k t
+    go true true e = absurd (none-some _ (sym e))
+    go true false e = refl
+    go false b e = absurd (none-some _ (sym e))
+
+pub not_short : (moving : Bool) (k : ℕ) (t : Timer) → shortly moving k t ≡ None → t.prescaler ≤ k
+unfolding shortly
+not_short moving k t = go moving (ltb k t.prescaler) refl
+  where
+    go : (a b : Bool) → ltb k t.prescaler ≡ b → pick a (pick b (few_to (t.prescaler - k) t.counter) None) (Some t) ≡ None → t.prescaler ≤ k
+    go true true h e = absurd (none-some _ (sym e))
+    go true false h e = ltb-false _ _ h
+    go false b h e = absurd (none-some _ (sym e))
+
+pub is_moving : (moving : Bool) (k : ℕ) (t : Timer) → shortly moving k t ≡ None → moving ≡ true
+unfolding shortly
+is_moving true k t e = refl
+is_moving false k t e = absurd (none-some _ (sym e))
+
+-- and what it takes that there is an end
+pub gone_round : (p k : ℕ) (t : Timer) → turned_of p k t ≡ None → p * (t.counter - 1) ≤ k - t.prescaler
+unfolding turned_of
+gone_round p k t = go (ltb (k - t.prescaler) (p * (t.counter - 1))) refl
+  where
+    go : (b : Bool) → ltb (k - t.prescaler) (p * (t.counter - 1)) ≡ b
+        → pick b (few_to (p - (k - t.prescaler) % p) (t.counter - 1 - (k - t.prescaler) / p)) None ≡ None → p * (t.counter - 1) ≤ k - t.prescaler
+    go true g e = absurd (none-some _ (sym e))
+    go false g e = ltb-false _ _ g
+
+pub ticks_short : (by : Source) (s : Setup) (c : Counting) (k : ℕ) (t : Timer) → LegalSetup s → LegalCounting c
+    → shortly (moves by s c) k c.timer ≡ Some t → ticks by s k c ≡ at c t.prescaler t.counter 0
+ticks_short by s c k t ls lc e =
+    MatchOption-at_some _ _ t (few_shortly (moves by s c) s.p k c.timer t e) (ticks_few by s c k ls lc)
+
+pub ticks_turned : (by : Source) (s : Setup) (c : Counting) (k : ℕ) (t : Timer) → LegalSetup s → LegalCounting c
+    → shortly (moves by s c) k c.timer ≡ None → turned_of s.p k c.timer ≡ Some t → ticks by s k c ≡ at c t.prescaler t.counter 0
+ticks_turned by s c k t ls lc e f =
+    MatchOption-at_some _ _ t (few_turned (moves by s c) s.p k c.timer e ∙ f) (ticks_few by s c k ls lc)
+
+pub ruleset by_round = (few_shortly, few_turned, not_short)
+
+pub ruleset by_division = (ticks_short, ticks_turned, not_short, is_moving, gone_round, ticks_stops, ticks_repeats)

@@ -4,7 +4,9 @@ use mathlib.Core.Bool.{Bool, true, false, not, ◌||◌}
 use Prim.Native.Nat.{ℕ, zero, suc, ◌%◌, ◌<◌}
 use native.Mathlib.Decide.{dec_lt}
 use native.Mathlib.Omega.{arith}
-use lib.Dec.{eqb}
+use lib.Dec.{eqb, ltb}
+use borrow.Author.Tests.{lt-ltb}
+use Rattle.std.proofs.Math.Bool.{not-not}
 use Rattle.word.specs.Choose.{pick}
 use Rattle.word.specs.Iter.{iter}
 use Rattle.serial.specs.Port.{port_end, quiet, more_port, port_ends}
@@ -15,15 +17,11 @@ use Rattle.timers.specs.declared.Setup.{Setup}
 use Rattle.timers.specs.declared.RequestRegister.{RequestRegister}
 use Rattle.timers.specs.declared.Lines.{Lines}
 use Rattle.word.proofs.Iterate.{iter_zero, iter_suc, iter_fixed}
-use Rattle.timers.proofs.Latched.{latch_swap, if_or, if_past, if_swap}
+use Rattle.timers.proofs.Latched.{latch_often, latch_swap, if_or, if_past, if_swap}
 
 -- T_OUT by the parity of the ends, where the timer drives it
 abbrev turned : Bool → Bool → Bool
 turned odd tout = pick odd (not tout) tout
-
-back : (b : Bool) → not (not b) ≡ b
-back true = refl
-back false = refl
 
 pub level_driven : (e : ℕ) (tout : Bool) → iter e (flips true) tout ≡ turned (eqb (e % 2) 1) tout
 level_driven zero tout = iter_zero (flips true) tout
@@ -38,7 +36,7 @@ level_driven (suc e) tout =
     go (no h) =
         let odd : e % 2 ≡ 1 = omega arith in
         let even : suc e % 2 ≡ 0 = omega arith in
-        rw (odd, even) (back tout)
+        rw (odd, even) (not-not tout)
 
 pub level_kept : (e : ℕ) (tout : Bool) → iter e (flips false) tout ≡ tout
 level_kept e tout = iter_fixed (flips false) tout refl e
@@ -48,6 +46,14 @@ flips_swap true true tout = refl
 flips_swap true false tout = refl
 flips_swap false true tout = refl
 flips_swap false false tout = refl
+
+-- some requests are one, and none is none
+pub requests_after : (n e : ℕ) (r : RequestRegister) → iter e (latch n) r ≡ latched_if (ltb 0 e) n r
+unfolding latched_if
+requests_after n zero r = iter_zero (latch n) r
+requests_after n (suc e) r =
+    let some : ltb 0 (suc e) ≡ true = lt-ltb 0 (suc e) (omega arith) in
+    rw some (latch_often n (suc e) r (omega arith))
 
 -- part by part
 pub ends_apart : (s : Setup) (e : ℕ) (l : Lines)

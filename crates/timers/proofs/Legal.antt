@@ -39,6 +39,8 @@ pub highest_high : (top field : ℕ) → field ≤ top → or_highest top field 
 unfolding or_highest
 highest_high top field h = by_test (λ (x : ℕ). x ≤ top) (eqb field 0) (λ e. le_refl top) (λ e. h)
 
+pub ruleset highest = (highest_low, highest_high)
+
 setup_legal : (pre start request : ℕ) (divider edges drives : Bool) → pre < 256 → start < 256 → request < 6
     → LegalSetup (setup_of pre start divider edges request drives)
 unfolding setup_of

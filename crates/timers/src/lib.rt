@@ -22,6 +22,9 @@ pub struct Control {
     pub port3: u8,
 }
 
+// What is legal stands in `requires` and not in the types: `setup_of` makes a `Setup` of any numbers, `clock::write_tmr` takes any `Moving`,
+// and neither may change.
+
 // Where a tick comes from: the divider, or the falling edges of P31.
 #[derive(Clone, Copy)]
 pub enum Source {

@@ -7,6 +7,7 @@ ghost use Rattle.word.specs.Fields.{bit_of, is_set, upper, lower, word_of, high_
 ghost use Rattle.word.specs.Words.{plus, disp_of, moved_by};
 
 // Bit n of v, as 0 or 1.
+// n stays a number, and bits stay numbers here: docs/PROMISES.md names `bit(n, v)` and `is_set(n, v)` (what may not change).
 pub fn bit(n: u8, v: u8) -> u8
     requires { n < 8 }
     ensures { result ≡ bit_of n v }
@@ -48,19 +49,19 @@ pub fn lower(v: u8) -> u8
 pub fn word(hi: u8, lo: u8) -> u16
     ensures { result ≡ word_of hi lo }
 {
-    hi as u16 * 256 + lo as u16
+    u16::from_be_bytes([hi, lo])
 }
 
 pub fn high_byte(w: u16) -> u8
     ensures { result ≡ high_byte w }
 {
-    (w / 256) as u8
+    w.to_be_bytes()[0]
 }
 
 pub fn low_byte(w: u16) -> u8
     ensures { result ≡ low_byte w }
 {
-    (w % 256) as u8
+    w.to_be_bytes()[1]
 }
 
 // w + n modulo 65,536: the bytes fetched, a word's increment, an external stack pointer's move. A move down by n is one
@@ -68,23 +69,19 @@ pub fn low_byte(w: u16) -> u8
 pub fn plus(w: u16, n: u16) -> u16
     ensures { result ≡ plus w n }
 {
-    std::num::wrapping_add_u16(w, n)
+    w.wrapping_add(n)
 }
 
-// An operand byte as a signed displacement, -128 to 127: 128 more, modulo 256, and 128 taken away again, which the compiler makes one
-// instruction of.
+// An operand byte as a signed displacement, -128 to 127.
 pub fn displacement(b: u8) -> i16
     ensures { result ≡ disp_of b }
 {
-    ((b as u16 + 128) % 256) as i16 - 128
+    i16::from(b.cast_signed())
 }
 
-// w moved by an operand byte's displacement. 256 more than the displacement is never negative, and 65,280 takes the 256
-// away again modulo 65,536.
+// w moved by an operand byte's displacement.
 pub fn moved(w: u16, b: u8) -> u16
     ensures { result ≡ moved_by w (disp_of b) }
 {
-    let d = displacement(b);
-    let up = (d + 256) as u16;
-    plus(plus(w, up), 65280)
+    w.wrapping_add_signed(displacement(b))
 }

@@ -1,18 +1,22 @@
 -- The first refusal that applies, where the first ones are known; and what a loaded machine is.
 use mathlib.Core.Path.{◌≡◌, ◌∙◌, refl, sym, ap}
+use mathlib.Core.Bool.{Bool, true, false, ◌&&◌}
 use mathlib.Core.List.{List, [], ◌∷◌, ◌++◌}
 use Prim.Native.Nat.{ℕ}
 use lib.Dec.{eqb}
 use lib.ListN.{length}
-use borrow.Author.Tests.{eqb-true, eq-eqb, ne_eqb}
-use Rattle.numbers.specs.Numbers.{saved_length}
+use borrow.Author.Tests.{eqb-true, ne_eqb}
+use Rattle.std.specs.Prelude.{Result, Ok, Err, IsErrAnd}
+use Rattle.numbers.specs.Numbers.{number_of, answered, saved_length}
+use Rattle.numbers.specs.declared.Refusal.{Refusal}
+use Rattle.numbers.proofs.Refused.{numbered}
+use Rattle.numbers.specs.declared.Refusal.TheVariants as refusal
 use Rattle.word.specs.Choose.{pick}
 use Rattle.word.proofs.Computed.{by_test}
-use Rattle.machine.specs.Legal.{Legal}
+use Rattle.machine.specs.Start.{is_kind, is_cost, new_of, made_of}
 use Rattle.machine.specs.declared.Machine.{Machine}
-use Rattle.saved.specs.Saved.{machine_of, first_of, refusal_of}
-use Rattle.saved.specs.declared.Loaded.{Loaded}
-use Rattle.saved.proofs.RoundTrip.{loads_long}
+use Rattle.saved.specs.Saved.{machine_of, legal_of, first_of, refusal_of}
+use Rattle.saved.proofs.RoundTrip.{loads_long, load_refuses}
 use Rattle.z8.specs.Calls.{Answer, answer, image_refusal, memory_refusal}
 use Rattle.saved.specs.ForCode.{load_of}
 use Rattle.z8.specs.ForCode.{admitted_of}
@@ -32,57 +36,52 @@ module _ {A : Type 0} (f : ℕ) (l : A) (done : Answer A) where
   pub is_done : f ≡ 0 → done ≡ pick (eqb f 0) done (answer f l)
   is_done e = rw (e)
 
+  -- where a refusal is passed on to the caller
+  pub refused_with : {X : Type 0} (r : Result X Refusal) (e : Refusal) → IsErrAnd r (λ x. x ≡ e) → f ≡ number_of e
+      → answer (answered r) l ≡ pick (eqb f 0) done (answer f l)
+  refused_with (Ok x) e h g = absurd h
+  refused_with (Err x) e h g = rw (h, g, numbered e)
+
 -- ---- what a saved machine loads to
-module _ (s : List ℕ) (r : Loaded) (e : r ≡ load_of s) where
-  pub load_refuses : r.refusal ≡ refusal_of s
-  unfolding load_of
-  load_refuses = ap (λ (l : Loaded). l.refusal) e
-
-  pub load_long : r.refusal ≡ 0 → length s ≡ saved_length
-  load_long z = loads_long s (sym load_refuses ∙ z)
-
-  pub load_machine : r.refusal ≡ 0 → r.machine ≡ machine_of s
-  unfolding load_of
-  load_machine z = ap (λ (l : Loaded). l.machine) e ∙ rw (← load_refuses, eq-eqb r.refusal 0 z)
-
-  -- and whether it is admitted with an image and a data memory
-  module _ (image memory : List ℕ) (n : ℕ) (a : n ≡ admitted_of r.refusal image memory) where
-    admitting : List ℕ
-    admitting = refusal_of s ∷ image_refusal image ∷ memory_refusal memory ∷ []
-
-    first_is : first_of admitting ≡ n
-    unfolding admitted_of admitting
-    first_is = sym (a ∙ ap (λ (x : ℕ). admitted_of x image memory) load_refuses)
-
-    pub not_admitted : (next : ℕ) → (n ≡ 0 → ⊥) → first_of (refusal_of s ∷ image_refusal image ∷ memory_refusal memory ∷ next ∷ []) ≡ n
-    unfolding admitting
-    not_admitted next d = one_more admitting next ∙ rw (first_is, ne_eqb n 0 d)
-
-    pub admitted_next : (next : ℕ) → n ≡ 0 → first_of (refusal_of s ∷ image_refusal image ∷ memory_refusal memory ∷ next ∷ []) ≡ next
-    unfolding admitting
-    admitted_next next z = one_more admitting next ∙ rw (first_is, z)
-
-    pub admitted_loaded : n ≡ 0 → r.refusal ≡ 0
-    unfolding admitted_of
-    admitted_loaded z = loaded r.refusal (sym a ∙ z)
-      where
-        loaded : (x : ℕ) → admitted_of x image memory ≡ 0 → x ≡ 0
-        loaded x = by_test (λ (y : ℕ). y ≡ 0 → x ≡ 0) (eqb x 0) (λ t h. eqb-true x 0 t) (λ t h. h)
-
--- what is known of a machine that was loaded and admitted; where one test more is made, it is the first that applies
-pub record Admitted (s image memory : List ℕ) (m : Machine) : Type 0 where
-  pub long : length s ≡ saved_length
-  pub legal : Legal m
+pub record Loaded (s : List ℕ) (m : Machine) : Type 0 where
   pub is : m ≡ machine_of s
-  pub next : (n : ℕ) → first_of (refusal_of s ∷ image_refusal image ∷ memory_refusal memory ∷ n ∷ []) ≡ n
+  pub taken : refusal_of s ≡ 0
+  pub long : length s ≡ saved_length
 
-pub admitted_is : (s image memory : List ℕ) (r : Loaded) → (r ≡ load_of s) × (r.refusal ≡ 0 → Legal r.machine) → (n : ℕ) → n ≡ admitted_of r.refusal image memory
-    → n ≡ 0 → Admitted s image memory r.machine
-admitted_is s image memory r l n a z =
-    let loaded : r.refusal ≡ 0 = admitted_loaded s r l.0 image memory n a z in
-    record {
-      long = load_long s r l.0 loaded;
-      legal = l.1 loaded;
-      is = load_machine s r l.0 loaded;
-      next = λ next. admitted_next s r l.0 image memory n a next z;
-    }
+pub loads : (s : List ℕ) {m : Machine} → load_of s ≡ Ok m → Loaded s m
+unfolding load_of
+loads s {m} e =
+    let taken : refusal_of s ≡ 0 = sym (load_refuses s) ∙ ap answered e in
+    record { is = go (eqb (length s) saved_length) (legal_of s) e; taken = taken; long = loads_long s taken }
+  where
+    go : (b l : Bool) → pick b (pick l (Ok (machine_of s)) (Err refusal.Machine)) (Err refusal.Length) ≡ Ok m → m ≡ machine_of s
+    go true true h = cc
+    go true false h = cc
+    go false l h = cc
+
+pub load_refused : (s : List ℕ) {e : Refusal} → load_of s ≡ Err e → refusal_of s ≡ number_of e
+load_refused s h = sym (load_refuses s) ∙ ap answered h
+
+-- a refusal passed on has its number
+pub passed_with : {X : Type 0} (r : Result X Refusal) (e : Refusal) (n : ℕ) → IsErrAnd r (λ x. x ≡ e) → n ≡ number_of e → answered r ≡ n
+passed_with (Ok x) e n h g = absurd h
+passed_with (Err x) e n h g = rw (h, g)
+
+-- the machine that is made
+pub made_is : (kind cost : ℕ) {m : Machine} → made_of kind cost ≡ Ok m → m ≡ new_of kind cost
+unfolding made_of
+made_is kind cost {m} e = go (is_kind kind && is_cost cost) e
+  where
+    go : (b : Bool) → pick b (Ok (new_of kind cost)) (Err refusal.Making) ≡ Ok m → m ≡ new_of kind cost
+    go true h = cc
+    go false h = cc
+
+-- whether it is admitted with an image and a data memory; where one test more is made, it is the first that applies
+module _ (s image memory : List ℕ) (n : ℕ) (a : n ≡ admitted_of s image memory) (next : ℕ) where
+  pub not_admitted : (n ≡ 0 → ⊥) → first_of (refusal_of s ∷ image_refusal image ∷ memory_refusal memory ∷ next ∷ []) ≡ n
+  unfolding admitted_of
+  not_admitted d = one_more (refusal_of s ∷ image_refusal image ∷ memory_refusal memory ∷ []) next ∙ rw (← a, ne_eqb n 0 d)
+
+  pub admitted_next : n ≡ 0 → first_of (refusal_of s ∷ image_refusal image ∷ memory_refusal memory ∷ next ∷ []) ≡ next
+  unfolding admitted_of
+  admitted_next z = one_more (refusal_of s ∷ image_refusal image ∷ memory_refusal memory ∷ []) next ∙ rw (← a, z)

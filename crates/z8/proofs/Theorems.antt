@@ -1,22 +1,24 @@
 -- What the order asks of the calls beyond their contracts.
 use mathlib.Core.Path.{◌≡◌, ◌∙◌, refl, sym, ap}
-use mathlib.Core.Bool.{true}
+use mathlib.Core.Bool.{Bool, true, false, ◌&&◌}
 use mathlib.Core.List.{List, [], ◌∷◌}
 use Prim.Native.Nat.{ℕ, ◌<◌}
 use lib.Dec.{eqb, ltb}
 use lib.ListN.{length}
-use borrow.Author.Tests.{eqb-false, lt-ltb}
-use Rattle.numbers.specs.Numbers.{version, refused_image, image_most}
+use borrow.Author.Tests.{eqb-true, eqb-false, lt-ltb}
+use native.Mathlib.Omega.{arith}
+use Rattle.std.specs.Prelude.{Result, Ok, Err, IfOk}
+use Rattle.numbers.specs.Numbers.{answered, version, refused_image, image_most}
+use Rattle.numbers.specs.declared.Refusal.{Refusal}
+use Rattle.numbers.specs.declared.Refusal.TheVariants as refusal
 use Rattle.word.specs.Choose.{pick}
 use Rattle.word.proofs.Computed.{by_test}
 use Rattle.opcodes.specs.Instruction.{decode_of, encode_of}
 use Rattle.opcodes.specs.declared.Decoded.{Decoded}
-use Rattle.opcodes.specs.declared.Decoded.TheVariants as decoded
 use Rattle.opcodes.specs.declared.Encoded.{Encoded}
-use Rattle.opcodes.specs.declared.Encoded.TheVariants as encoded
 use Rattle.machine.specs.Clock.{span_of}
 use Rattle.machine.specs.Legal.{Legal}
-use Rattle.machine.specs.Start.{made_of, default_of, reset_of}
+use Rattle.machine.specs.Start.{is_kind, is_cost, new_of, made_of, default_of, reset_of}
 use Rattle.machine.specs.declared.Machine.{Machine}
 use Rattle.machine.specs.declared.Pins.{Pins}
 use Rattle.machine.proofs.Legal.{LegalPins, made_legal, default_legal, reset_legal, span_legal}
@@ -86,7 +88,7 @@ untouched {A} f given done = by_test (λ (a : Answer A). (a.number ≡ 0 → ⊥
 
 pub make_untouched : (kind cost : ℕ) (saved : List ℕ) → ((make_of kind cost saved).number ≡ 0 → ⊥) → (make_of kind cost saved).left ≡ saved
 unfolding make_of
-make_untouched kind cost saved = untouched (first_of (length_refusal saved ∷ (made_of kind cost).refusal ∷ [])) saved (saved_of (made_of kind cost).machine)
+make_untouched kind cost saved = untouched (first_of (length_refusal saved ∷ answered (made_of kind cost) ∷ [])) saved (saved_of (new_of kind cost))
 
 pub make_default_untouched : (saved : List ℕ) → ((make_default_of saved).number ≡ 0 → ⊥) → (make_default_of saved).left ≡ saved
 unfolding make_default_of
@@ -109,9 +111,9 @@ span_untouched n given =
     untouched (refusal_of given.saved) given (lent_span (saved_of r.machine) r.ends0 r.ends1)
 
 -- decoding and encoding: an instruction is answered with 0, and else the four numbers stay
-decoded_untouched : (given : Four) (d : Decoded) → ((decoded_into given d).number ≡ 0 → ⊥) → (decoded_into given d).left ≡ given
-decoded_untouched given (decoded.Instruction op first second size) refused = absurd (refused refl)
-decoded_untouched given (decoded.Refused n) refused = refl
+decoded_untouched : (given : Four) (d : Result Decoded Refusal) → ((decoded_into given d).number ≡ 0 → ⊥) → (decoded_into given d).left ≡ given
+decoded_untouched given (Ok i) refused = absurd (refused refl)
+decoded_untouched given (Err e) refused = refl
 
 pub decode_untouched : (image : List ℕ) (at : ℕ) (given : Four) → ((decode_call_of image at given).number ≡ 0 → ⊥) → (decode_call_of image at given).left ≡ given
 unfolding decode_call_of
@@ -121,9 +123,9 @@ decode_untouched image at given =
     (λ t. decoded_untouched given (decode_of i.op i.first i.second))
     (λ t refused. refl)
 
-encoded_untouched : (given : Four) (e : Encoded) → ((encoded_into given e).number ≡ 0 → ⊥) → (encoded_into given e).left ≡ given
-encoded_untouched given (encoded.Bytes size b0 b1 b2) refused = absurd (refused refl)
-encoded_untouched given (encoded.Refused n) refused = refl
+encoded_untouched : (given : Four) (e : Result Encoded Refusal) → ((encoded_into given e).number ≡ 0 → ⊥) → (encoded_into given e).left ≡ given
+encoded_untouched given (Ok x) refused = absurd (refused refl)
+encoded_untouched given (Err e) refused = refl
 
 pub encode_untouched : (op first second : ℕ) (given : Four) → ((encode_call_of op first second given).number ≡ 0 → ⊥) → (encode_call_of op first second given).left ≡ given
 unfolding encode_call_of
@@ -150,12 +152,25 @@ saves_legal {m} l = (machine_and_back m l).1
 unless_legal : (f : ℕ) (saved done : List ℕ) → refusal_of saved ≡ 0 → refusal_of done ≡ 0 → refusal_of (unless_refused f saved done).left ≡ 0
 unless_legal f saved done l k = by_test (λ (a : Answer (List ℕ)). refusal_of a.left ≡ 0) (eqb f 0) (λ t. k) (λ t. l)
 
+-- what is made where nothing is refused
+new_legal : (kind cost : ℕ) → answered (made_of kind cost) ≡ 0 → Legal (new_of kind cost)
+unfolding made_of
+new_legal kind cost = go (is_kind kind && is_cost cost) (made_legal kind cost)
+  where
+    go : (b : Bool) → IfOk (pick {A = Result Machine Refusal} b (Ok (new_of kind cost)) (Err refusal.Making)) (λ m. Legal m)
+        → answered (pick {A = Result Machine Refusal} b (Ok (new_of kind cost)) (Err refusal.Making)) ≡ 0 → Legal (new_of kind cost)
+    go true l e = l
+    go false l e = absurd (omega arith)
+
+last_none : (a b : ℕ) → first_of (a ∷ b ∷ []) ≡ 0 → b ≡ 0
+last_none a b = by_test (λ (r : ℕ). r ≡ 0 → b ≡ 0) (eqb a 0) (λ t. by_test (λ (r : ℕ). r ≡ 0 → b ≡ 0) (eqb b 0) (λ u h. eqb-true b 0 u) (λ u h. h)) (λ t h. absurd (eqb-false a 0 t h))
+
 pub make_leaves_legal : (kind cost : ℕ) (saved : List ℕ) → (make_of kind cost saved).number ≡ 0 → refusal_of (make_of kind cost saved).left ≡ 0
 unfolding make_of
 make_leaves_legal kind cost saved =
-    let f : ℕ = first_of (length_refusal saved ∷ (made_of kind cost).refusal ∷ []) in
+    let f : ℕ = first_of (length_refusal saved ∷ answered (made_of kind cost) ∷ []) in
     by_test (λ (a : Answer (List ℕ)). a.number ≡ 0 → refusal_of a.left ≡ 0) (eqb f 0)
-    (λ t e. saves_legal (made_legal kind cost))
+    (λ t e. saves_legal (new_legal kind cost (last_none (length_refusal saved) (answered (made_of kind cost)) (eqb-true f 0 t))))
     (λ t e. absurd (eqb-false f 0 t e))
 
 pub make_default_leaves_legal : (saved : List ℕ) → (make_default_of saved).number ≡ 0 → refusal_of (make_default_of saved).left ≡ 0

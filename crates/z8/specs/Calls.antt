@@ -1,15 +1,14 @@
 -- What each call of the C library answers and leaves (01 "Numbers the encoder sees"): of all it was given, all that the caller can see
 -- afterwards.
-use Rattle.std.specs.Prelude.{List, [], ◌∷◌, ℕ, eqb, ltb, length}
-use Rattle.numbers.specs.Numbers.{refused_image, refused_data, image_most, data_most}
+use Rattle.std.specs.Prelude.{List, [], ◌∷◌, ℕ, eqb, ltb, length, Result, Ok, Err}
+use Rattle.numbers.specs.Numbers.{refused_image, refused_data, number_of, answered, image_most, data_most}
+use Rattle.numbers.specs.declared.Refusal.{Refusal}
 use Rattle.word.specs.Choose.{pick}
 use Rattle.opcodes.specs.Instruction.{decode_of, encode_of}
 use Rattle.opcodes.specs.declared.Decoded.{Decoded}
-use Rattle.opcodes.specs.declared.Decoded.TheVariants as decoded
 use Rattle.opcodes.specs.declared.Encoded.{Encoded}
-use Rattle.opcodes.specs.declared.Encoded.TheVariants as encoded
 use Rattle.machine.specs.Clock.{span_of}
-use Rattle.machine.specs.Start.{made_of, default_of, reset_of}
+use Rattle.machine.specs.Start.{new_of, made_of, default_of, reset_of}
 use Rattle.machine.specs.declared.Pins.{Pins}
 use Rattle.execute.specs.Execute.{code_at}
 use Rattle.saved.specs.Saved.{machine_of, saved_of, first_of, length_refusal, refusal_of}
@@ -82,8 +81,7 @@ unless_refused refusal given done = pick (eqb refusal 0) (answer 0 done) (answer
 -- a new machine: 7, 3
 unfoldable pub make_of : ℕ → ℕ → List ℕ → Answer (List ℕ)
 make_of kind cost saved =
-    let made = made_of kind cost in
-    unless_refused (first_of (length_refusal saved ∷ made.refusal ∷ [])) saved (saved_of made.machine)
+    unless_refused (first_of (length_refusal saved ∷ answered (made_of kind cost) ∷ [])) saved (saved_of (new_of kind cost))
 
 -- "type 11 and entry cost 20 unless others are named": 7
 unfoldable pub make_default_of : List ℕ → Answer (List ℕ)
@@ -96,9 +94,9 @@ unfoldable pub reset_call_of : List ℕ → Answer (List ℕ)
 reset_call_of saved = unless_refused (refusal_of saved) saved (saved_of (reset_of (machine_of saved)))
 
 -- decoding: 1, 5. What stands at the address is decoded if the image isn't refused.
-abbrev pub decoded_into : Four → Decoded → Answer Four
-decoded_into given (decoded.Instruction op first second size) = answer 0 (four op first second size)
-decoded_into given (decoded.Refused n) = answer n given
+abbrev pub decoded_into : Four → Result Decoded Refusal → Answer Four
+decoded_into given (Ok i) = answer 0 (four i.op i.first i.second i.size)
+decoded_into given (Err e) = answer (number_of e) given
 
 unfoldable pub decode_call_of : List ℕ → ℕ → Four → Answer Four
 decode_call_of image at given =
@@ -108,9 +106,9 @@ decode_call_of image at given =
     (answer (image_refusal image) given)
 
 -- encoding: 8
-abbrev pub encoded_into : Four → Encoded → Answer Four
-encoded_into given (encoded.Bytes size b0 b1 b2) = answer 0 (four b0 b1 b2 size)
-encoded_into given (encoded.Refused n) = answer n given
+abbrev pub encoded_into : Four → Result Encoded Refusal → Answer Four
+encoded_into given (Ok x) = answer 0 (four x.byte0 x.byte1 x.byte2 x.size)
+encoded_into given (Err e) = answer (number_of e) given
 
 unfoldable pub encode_call_of : ℕ → ℕ → ℕ → Four → Answer Four
 encode_call_of op first second given = encoded_into given (encode_of op first second)

@@ -6,13 +6,6 @@ use Rattle.deeds.specs.Results.{unary_of}
 use Rattle.perform.proofs.Arms.{at_next, in_column, elsewhere, ld_column, inc_column}
 use Rattle.word.specs.Fields.{lower}
 use Rattle.perform.proofs.perform.Goals as goal
-use Rattle.perform.proofs.perform.Goals.{Start}
-
-op_below : (s : Start) → s.args.i.op < 256
-op_below s = search rules
-
-low_below : (s : Start) → lower s.args.i.op < 16
-low_below s = search rules
 
 pub djnz-requires : goal.djnz-requires
 djnz-requires c =
@@ -37,47 +30,48 @@ two-requires c =
 pub alone-requires : goal.alone-requires
 alone-requires c =
     let low = lower c.args.i.op in
-    let column : low ≡ 15 = omega (arith, low_below (goal.at.alone-requires c).Start) in
+    let high : low < 16 = search rules in
+    let column : low ≡ 15 = omega (arith, high) in
     in_column 15 _ column (c.operands-o.ensures.value, c.operands-o.ensures.next)
 
-pub returns-in-8 : goal.returns-in-8
-unfolding entry_of opcode_map length_of
-returns-in-8 c =
-    let asked = in_column 8 _ c.in-8.is (c.operands-o.ensures.value, c.operands-o.ensures.next) in
-    elsewhere _ _ _ _ _ _ _ _ _ c.operands-o.ensures.next (rw c.write.ensures (ld_column _ _ (op_below (goal.at.returns-in-8 c).Start) WorkReg 8 asked refl refl))
-
-pub returns-in-9 : goal.returns-in-9
-unfolding entry_of opcode_map length_of
-returns-in-9 c =
-    let asked = in_column 9 _ c.in-9.is (c.operands-o.ensures.value, c.operands-o.ensures.next) in
-    elsewhere _ _ _ _ _ _ _ _ _ c.operands-o.ensures.next (rw c.write-in-9.ensures (ld_column _ _ (op_below (goal.at.returns-in-9 c).Start) RegWork 9 asked refl refl))
-
 pub returns-in-10 : goal.returns-in-10
-returns-in-10 c = elsewhere _ _ _ _ _ _ _ _ _ c.operands-o.ensures.next c.djnz.ensures
+returns-in-10 c = elsewhere _ _ _ _ _ _ _ _ _ c.operands-o.ensures.next (c.djnz.ensures _ _)
 
 pub returns-in-11 : goal.returns-in-11
-returns-in-11 c = elsewhere _ _ _ _ _ _ _ _ _ c.operands-o.ensures.next c.jr.ensures
-
-pub returns-in-12 : goal.returns-in-12
-unfolding entry_of opcode_map length_of
-returns-in-12 c =
-    let asked = in_column 12 _ c.in-12.is (c.operands-o.ensures.value, c.operands-o.ensures.next) in
-    elsewhere _ _ _ _ _ _ _ _ _ c.operands-o.ensures.next (rw c.write-in-12.ensures (ld_column _ _ (op_below (goal.at.returns-in-12 c).Start) WorkImm 12 asked refl refl))
+returns-in-11 c = elsewhere _ _ _ _ _ _ _ _ _ c.operands-o.ensures.next (c.jr.ensures _ _)
 
 pub returns-in-13 : goal.returns-in-13
-returns-in-13 c = elsewhere _ _ _ _ _ _ _ _ _ c.operands-o.ensures.next c.jp.ensures
+returns-in-13 c = elsewhere _ _ _ _ _ _ _ _ _ c.operands-o.ensures.next (c.jp.ensures _ _)
 
 pub returns-in-14 : goal.returns-in-14
 unfolding unary_of
 returns-in-14 c =
     let asked = in_column 14 _ c.in-14.is (c.operands-o.ensures.value, c.operands-o.ensures.next) in
-    elsewhere _ _ _ _ _ _ _ _ _ c.operands-o.ensures.next (rw (c.store.ensures, c.inc-r.ensures, c.read-was.ensures) (inc_column _ _ (op_below (goal.at.returns-in-14 c).Start) asked))
+    elsewhere _ _ _ _ _ _ _ _ _ c.operands-o.ensures.next (rw (c.store.ensures, c.inc.ensures, c.read-was.ensures) (inc_column _ _ (search rules) asked))
 
-pub returns-in-0 : goal.returns-in-0
-returns-in-0 c = elsewhere _ _ _ _ _ _ _ _ _ c.operands-o.ensures.next c.one.ensures
+pub returns-in-0-to-1 : goal.returns-in-0-to-1
+returns-in-0-to-1 c = elsewhere _ _ _ _ _ _ _ _ _ c.operands-o.ensures.next (c.one.ensures _)
 
-pub returns-in-2 : goal.returns-in-2
-returns-in-2 c = elsewhere _ _ _ _ _ _ _ _ _ c.operands-o.ensures.next c.two.ensures
+pub returns-in-2-to-7 : goal.returns-in-2-to-7
+returns-in-2-to-7 c = elsewhere _ _ _ _ _ _ _ _ _ c.operands-o.ensures.next c.two.ensures
 
 pub returns-in_default : goal.returns-in_default
-returns-in_default c = elsewhere _ _ _ _ _ _ _ _ _ c.operands-o.ensures.next c.alone.ensures
+returns-in_default c = elsewhere _ _ _ _ _ _ _ _ _ c.operands-o.ensures.next (c.alone.ensures _)
+
+pub returns-in-8 : goal.returns-in-8
+unfolding entry_of opcode_map length_of
+returns-in-8 c =
+    let asked = in_column 8 _ c.in-8.is (c.operands-o.ensures.value, c.operands-o.ensures.next) in
+    elsewhere _ _ _ _ _ _ _ _ _ c.operands-o.ensures.next (rw c.write.ensures (ld_column _ _ (search rules) WorkReg 8 asked refl refl))
+
+pub returns-in-9 : goal.returns-in-9
+unfolding entry_of opcode_map length_of
+returns-in-9 c =
+    let asked = in_column 9 _ c.in-9.is (c.operands-o.ensures.value, c.operands-o.ensures.next) in
+    elsewhere _ _ _ _ _ _ _ _ _ c.operands-o.ensures.next (rw c.write-in-9.ensures (ld_column _ _ (search rules) RegWork 9 asked refl refl))
+
+pub returns-in-12 : goal.returns-in-12
+unfolding entry_of opcode_map length_of
+returns-in-12 c =
+    let asked = in_column 12 _ c.in-12.is (c.operands-o.ensures.value, c.operands-o.ensures.next) in
+    elsewhere _ _ _ _ _ _ _ _ _ c.operands-o.ensures.next (rw c.write-in-12.ensures (ld_column _ _ (search rules) WorkImm 12 asked refl refl))

@@ -39,7 +39,7 @@ control p m a h nb =
 
 pub returns-in-242 : goal.returns-in-242
 unfolding read_reg
-returns-in-242 c = rw (c.counter.ensures, c.t1.ensures, c.in-242.is)
+returns-in-242 c = rw (c.counter.ensures, c.in-242.is)
 
 pub returns-in-243 : goal.returns-in-243
 unfolding read_reg
@@ -47,7 +47,7 @@ returns-in-243 c = rw c.in-243.is
 
 pub returns-in-244 : goal.returns-in-244
 unfolding read_reg
-returns-in-244 c = rw (c.counter-in-244.ensures, c.t0.ensures, c.in-244.is)
+returns-in-244 c = rw (c.counter-in-244.ensures, c.in-244.is)
 
 pub returns-in-251 : goal.returns-in-251
 unfolding read_reg

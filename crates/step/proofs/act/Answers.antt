@@ -1,5 +1,4 @@
-use borrow.Author.Rules.{rules}
-use mathlib.Core.Path.{sym, ◌∙◌}
+use Rattle.std.proofs.Common.{rules, sym, ◌∙◌}
 use Rattle.interrupts.specs.Grants.{grant_of}
 use Rattle.interrupts.proofs.Orders.{granted_low}
 use Rattle.step.specs.Step.{granted_or}
@@ -7,16 +6,16 @@ use Rattle.step.proofs.Acts.{entered_left}
 use Rattle.step.proofs.act.Goals as goal
 
 pub enter-requires : goal.enter-requires
-enter-requires c = granted_low _ _ _ _ (search rules) (sym c.granted-g.ensures ∙ c.in-Request.is)
+enter-requires c = granted_low _ _ _ _ (search rules) (sym c.granted.ensures ∙ c.in-Some.is)
 
-pub returns-in-Nothing : goal.returns-in-Nothing
+pub returns-in-None : goal.returns-in-None
 unfolding granted_or grant_of
-returns-in-Nothing c =
-    let grant_is = rw (c.held-ipr.ensures, c.held-imr.ensures, c.held-irq.ensures) at c.granted-g.ensures in
-    rw (← grant_is, c.in-Nothing.is) c.execute_here.ensures
+returns-in-None c =
+    let grant_is = rw (c.held-ipr.ensures, c.held-imr.ensures, c.held-irq.ensures) at c.granted.ensures in
+    rw (← grant_is, c.in-None.is) c.execute_here.ensures
 
-pub returns-in-Request : goal.returns-in-Request
+pub returns-in-Some : goal.returns-in-Some
 unfolding granted_or grant_of
-returns-in-Request c =
-    let grant_is = rw (c.held-ipr.ensures, c.held-imr.ensures, c.held-irq.ensures) at c.granted-g.ensures in
-    rw (← grant_is, c.in-Request.is, c.cost-cost.ensures) (entered_left c.args.pins _ _ _ _ _ c.enter.ensures)
+returns-in-Some c =
+    let grant_is = rw (c.held-ipr.ensures, c.held-imr.ensures, c.held-irq.ensures) at c.granted.ensures in
+    rw (← grant_is, c.in-Some.is) (entered_left c.args.pins _ _ _ _ _ c.enter.ensures)

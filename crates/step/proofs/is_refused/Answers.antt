@@ -2,7 +2,6 @@ use mathlib.Core.Path.{sym, ◌∙◌, subst, ◌≡◌}
 use lib.Dec.{T}
 use borrow.Author.Tests.{not-true, not-false}
 use Rattle.machine.specs.declared.Machine.{Machine}
-use Rattle.lent.specs.View.{machine_in}
 use Rattle.interrupts.proofs.Orders.{granted_standing}
 use Rattle.interrupts.specs.Edges.{compared_of}
 use Rattle.interrupts.specs.Grants.{grant_of}
@@ -10,31 +9,31 @@ use Rattle.step.specs.ForCode.{is_refused_of}
 use Rattle.step.proofs.Acts.{granted_is}
 use Rattle.step.proofs.Theorems.{told_refused, told_taken, granted_taken}
 use Rattle.step.proofs.is_refused.Goals as goal
-use Rattle.step.proofs.is_refused.Goals.{After-highest-g}
+use Rattle.step.proofs.is_refused.Goals.{After-highest}
 
 -- what is granted when the pins are compared
-module _ (s : After-highest-g) where
+module _ (s : After-highest) where
   abbrev given : Machine
-  given = machine_in s.args.regs.now s.args.rest.now
+  given = s.args.m.now
 
-  grant_is : grant_of (compared_of given s.args.pins.port3).machine ≡ s.highest-g.result
+  grant_is : grant_of (compared_of given s.args.pins.port3).machine ≡ s.highest.result
   grant_is =
-      let standing = rw (s.held-ipr.ensures, s.standing-standing.ensures, s.held-imr.ensures, s.requests-irq.ensures) at s.highest-g.ensures in
+      let standing = rw (s.held-2.ensures, s.standing-standing.ensures, s.held.ensures, s.requests-irq.ensures) at s.highest.ensures in
       sym (granted_is s.args.pins given s.requires) ∙ sym (rw granted_standing at standing)
 
-pub returns-in-Nothing : goal.returns-in-Nothing
+pub returns-in-None : goal.returns-in-None
 unfolding is_refused_of
-returns-in-Nothing c =
+returns-in-None c =
     let pins = c.args.pins in
     let image = c.args.image.now in
-    let m = given (goal.at.returns-in-Nothing c).After-highest-g in
-    let none = grant_is (goal.at.returns-in-Nothing c).After-highest-g ∙ c.in-Nothing.is in
-    let known = rw (c.program-op.ensures, c.pc-pc.ensures) at c.is_defined.ensures in record { value = rw (none, known); refused = λ t mem. told_refused pins image mem m c.requires none (sym known ∙ not-true _ t); taken = λ t mem. told_taken pins image mem m c.requires none (sym known ∙ not-false _ t) }
+    let m = given (goal.at.returns-in-None c).After-highest in
+    let none = grant_is (goal.at.returns-in-None c).After-highest ∙ c.in-None.is in
+    let known = rw c.program.ensures at c.is_defined.ensures in record { value = rw (none, known); refused = λ t mem. told_refused pins image mem m c.requires none (sym known ∙ not-true _ t); taken = λ t mem. told_taken pins image mem m c.requires none (sym known ∙ not-false _ t) }
 
-pub returns-in-Request : goal.returns-in-Request
+pub returns-in-Some : goal.returns-in-Some
 unfolding is_refused_of
-returns-in-Request c =
+returns-in-Some c =
     let pins = c.args.pins in
     let image = c.args.image.now in
-    let m = given (goal.at.returns-in-Request c).After-highest-g in
-    let some = grant_is (goal.at.returns-in-Request c).After-highest-g ∙ c.in-Request.is in record { value = rw (some); refused = λ t mem. absurd (subst T (sym t) tt); taken = λ t mem. granted_taken pins image mem m c.requires some }
+    let m = given (goal.at.returns-in-Some c).After-highest in
+    let some = grant_is (goal.at.returns-in-Some c).After-highest ∙ c.in-Some.is in record { value = rw (some); refused = λ t mem. absurd (subst T (sym t) tt); taken = λ t mem. granted_taken pins image mem m c.requires some }

@@ -27,11 +27,6 @@ upper_alone code f =
     let v : bit_of 4 (upper f * 16) ≡ bit_of 4 f = omega arith in
     same_flags code c z s v
 
-pub returns-then-cc-eq8 : goal.returns-then-cc-eq8
-unfolding holds_of
-returns-then-cc-eq8 c = rw c.if-cc-eq8.true
-
-pub returns : goal.returns
-returns c =
-    let row : c.holding.result ≡ holding_of (upper c.args.f) = c.holding.ensures in
-    rw row (in_row c.args.cc (upper c.args.f) (omega arith) (omega arith) ∙ upper_alone c.args.cc c.args.f)
+pub returns-else-cc-eq8 : goal.returns-else-cc-eq8
+returns-else-cc-eq8 c =
+    rw c.holding.ensures (in_row c.args.cc (upper c.args.f) (omega arith) (omega arith) ∙ upper_alone c.args.cc c.args.f)

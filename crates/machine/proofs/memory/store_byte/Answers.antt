@@ -6,7 +6,7 @@ use lib.Seq.{set_out}
 use mathlib.Core.List.{List}
 use Rattle.machine.specs.Memory.{data_stored, data_start}
 use Rattle.machine.proofs.memory.store_byte.Goals as goal
-use Rattle.machine.proofs.memory.store_byte.Goals.{Else-a-start}
+use Rattle.machine.proofs.memory.store_byte.Goals.{Else-a-data_start}
 
 below : (kind : ℕ) (mem : List ℕ) (a v : ℕ) → a < data_start kind → mem ≡ data_stored kind mem a v
 unfolding data_stored
@@ -21,16 +21,16 @@ unfolding data_stored
 past kind mem a v h k = rw (le-ltb a (data_start kind) h) (sym (set_out mem a v k))
 
 -- past the first test, the address is one of data memory
-from : (s : Else-a-start) → data_start s.args.kind ≤ s.args.a
-from s = rw s.data_start-start.ensures at s.if-a-start.false
+from : (s : Else-a-data_start) → data_start s.args.kind ≤ s.args.a
+from s = rw s.data_start.ensures at s.if-a-data_start.false
 
-pub returns-then-a-start : goal.returns-then-a-start
-returns-then-a-start c = let under : c.args.a < data_start c.args.kind = rw c.data_start-start.ensures at c.if-a-start.true in below _ _ _ _ under
+pub returns-then-a-data_start : goal.returns-then-a-data_start
+returns-then-a-data_start c = let under : c.args.a < data_start c.args.kind = rw c.data_start.ensures at c.if-a-data_start.true in below _ _ _ _ under
 
 pub returns-then-i-mem : goal.returns-then-i-mem
 returns-then-i-mem c =
-    within _ _ _ _ (from (goal.at.returns-then-i-mem c).Else-a-start)
+    within _ _ _ _ (from (goal.at.returns-then-i-mem c).Else-a-data_start)
 
 pub returns-else-i-mem : goal.returns-else-i-mem
 returns-else-i-mem c =
-    past _ c.args.mem.now _ _ (from (goal.at.returns-else-i-mem c).Else-a-start) c.if-i-mem.false
+    past _ c.args.mem.now _ _ (from (goal.at.returns-else-i-mem c).Else-a-data_start) c.if-i-mem.false

@@ -1,16 +1,11 @@
 use borrow.Author.Rules.{rules}
 use mathlib.Core.Path.{◌≡◌, refl}
 use native.Mathlib.Omega.{arith}
-use Prim.Native.Nat.{◌<◌}
 use Rattle.word.specs.Fields.{lower}
 use Rattle.word.proofs.Computed.{last}
 use Rattle.deeds.specs.Modes.{one_at, operands_of, from_register}
 use Rattle.operands.specs.ForCode.{column_at}
 use Rattle.operands.proofs.columns.operands.Goals as goal
-use Rattle.operands.proofs.columns.operands.Goals.{Start}
-
-low_below : (s : Start) → lower s.args.i.op < 16
-low_below s = search rules
 
 pub returns-in-0 : goal.returns-in-0
 unfolding column_at operands_of from_register one_at
@@ -88,5 +83,5 @@ pub returns-in_default : goal.returns-in_default
 unfolding column_at operands_of from_register one_at
 returns-in_default c =
     let low = lower c.args.i.op in
-    let is : low ≡ 15 = last 0 15 low (omega arith) (low_below (goal.at.returns-in_default c).Start) c.in_default.in_default-own.rest in
+    let is : low ≡ 15 = last 0 15 low (omega arith) (search rules) c.in_default.in_default-own.rest in
     record { value = rw is refl; next = rw is c.at-in_default.ensures }

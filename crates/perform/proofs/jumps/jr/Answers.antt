@@ -1,18 +1,14 @@
 use Rattle.std.proofs.Common.{◌<◌, true, false, sym, ◌∙◌, rules}
+use Rattle.machine.specs.State.{with_pc}
 use Rattle.execute.specs.Doing.{jumped}
 use Rattle.perform.proofs.Arms.{jr_arm}
 use Rattle.perform.proofs.jumps.jr.Goals as goal
-use Rattle.perform.proofs.jumps.jr.Goals.{Start}
 
-op_below : (s : Start) → s.args.i.op < 256
-op_below s = search rules
-
-pub returns-then-taken : goal.returns-then-taken
-unfolding jumped
-returns-then-taken c =
-    let holds = sym c.condition-taken.ensures ∙ c.if-taken.true in
-    rw (c.set_pc.ensures, c.moved-to.ensures, c.pc-here.ensures) (jr_arm _ _ (op_below (goal.at.returns-then-taken c).Start) c.requires true holds)
+pub returns-then-condition : goal.returns-then-condition
+unfolding jumped with_pc
+returns-then-condition c image mem =
+    rw c.moved-m.ensures (jr_arm image mem (search rules) c.requires true (sym c.condition.ensures ∙ c.if-condition.true))
 
 pub returns : goal.returns
 unfolding jumped
-returns c = jr_arm _ _ (op_below (goal.at.returns c).Start) c.requires false (sym c.condition-taken.ensures ∙ c.if-taken.false)
+returns c image mem = jr_arm image mem (search rules) c.requires false (sym c.condition.ensures ∙ c.if-condition.false)

@@ -1,7 +1,0 @@
-use mathlib.Core.Path.{refl}
-use Rattle.lent.specs.View.{core_in}
-use Rattle.lent.proofs.received.Goals as goal
-
-pub returns : goal.returns
-unfolding core_in
-returns c = refl

@@ -1,7 +1,0 @@
-use Rattle.lent.specs.View.{core_in}
-use mathlib.Core.Path.{refl}
-use Rattle.lent.proofs.tout.Goals as goal
-
-pub returns : goal.returns
-unfolding core_in
-returns c = refl

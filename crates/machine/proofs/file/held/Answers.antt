@@ -1,7 +1,0 @@
-use mathlib.Core.Path.{refl}
-use Rattle.machine.specs.State.{held_in}
-use Rattle.machine.proofs.file.held.Goals as goal
-
-pub returns : goal.returns
-unfolding held_in
-returns c = refl
