@@ -1,6 +1,6 @@
 -- H by single bits.
 use Rattle.std.proofs.Common.{◌*◌, sym, lt-ltb, le-ltb, ◌^◌, ◌≡◌, ℕ, ◌+◌, ◌-◌, ◌/◌, ◌%◌, ◌<◌, ◌≤◌, Bool, true, false, eqb, ltb, refl, ap, ◌∙◌, arith, lit<, ltb-false, ltb-true}
-use Rattle.std.specs.Int.{from_bool}
+use Rattle.std.specs.Int.{from_bool, rotate_left, w8}
 use lib.Bits.{bit_xor, xor_shr, xor_mod}
 use Rattle.word.specs.Choose.{one_if}
 use Rattle.word.specs.Fields.{bit_of, is_set}
@@ -105,3 +105,7 @@ difference_parts a b r true true h l m e = (omega arith, sym (lt-ltb a (b + 1) (
 difference_parts a b r true false h l m e = (omega arith, sym (le-ltb a (b + 1) (omega arith)))
 difference_parts a b r false true h l m e = (omega arith, sym (lt-ltb a (b + 0) (omega arith)))
 difference_parts a b r false false h l m e = (omega arith, sym (le-ltb a (b + 0) (omega arith)))
+
+-- a byte turned by four bits
+pub nibbles_swapped : (a : ℕ) → a < 256 → rotate_left w8 a 4 ≡ a % 16 * 16 + a / 16
+nibbles_swapped a l = agree (λ x. rotate_left w8 x 4) (λ x. x % 16 * 16 + x / 16) 256 refl a l

@@ -96,6 +96,7 @@ fn counted<T>(value: T, z: bool, s: bool, v: bool) -> Outcome<T>
     Outcome { value, flags }
 }
 
+// INC beside DEC, INCW beside DECW: with the method and the value of V handed to it one function would be a call of two closures, no plainer.
 // V of one more, one less: only 80 (hexadecimal) is the sum of a positive byte and 1 with the sign changed, only 7F the difference of a
 // negative one; of words 8000 and 7FFF.
 pub fn inc(a: u8) -> Outcome<u8>

@@ -21,7 +21,7 @@ fn holding(f: u8) -> u16
 
 // Condition code cc, a number below 16, holds of the FLAGS byte f. 8, the blank, is the code of most jumps, and holds before a flag is
 // looked at.
-// cc stays a number: docs/PROMISES.md names `holds(cc, f)`, and a type of its own would ask more (what may not change).
+// cc stays a number: an enum would be made of the opcode's upper nibble at each call, and turned back into the place of a bit (no plainer).
 pub fn holds(cc: u8, f: u8) -> bool
     requires { cc < 16 }
     ensures { result ≡ holds_of cc f }

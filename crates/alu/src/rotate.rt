@@ -16,7 +16,7 @@ fn rotated(out: bool, a: u8, r: u8) -> Outcome<u8>
     Outcome { value: r, flags }
 }
 
-// Left one bit, with this one rotated in.
+// Left one bit, with this one rotated in. (`rotate_left` has no bit to rotate in, and would do for RL alone: no plainer.)
 fn left(a: u8, low: bool) -> Outcome<u8>
     ensures { result ≡ rotated (a / 128) a (a % 128 * 2 + one_if low) }
 {
@@ -63,10 +63,11 @@ pub fn sra(a: u8) -> Outcome<u8>
     Outcome { value, flags }
 }
 
+#[tactic(auto, using(crate::proofs::Carries::nibbles_swapped), unfolding(crate::specs::FlagByte::packed, crate::specs::Rotate::rotate_flags, crate::specs::Rotate::swap_of))]
 pub fn swap(a: u8) -> Outcome<u8>
     ensures { result ≡ swap_of a }
 {
-    let value = a % 16 * 16 + a / 16;
+    let value = a.rotate_left(4);
     let flags = Flags::of_result(Flags::ZS, value, false, false, false, false);
     Outcome { value, flags }
 }

@@ -135,7 +135,8 @@ pub fn long_span(m: &mut Machine, n: u32) -> Ends
     }
 }
 
-// The same for few cycles, as a step costs: mostly no count ends in them, and then the file is left alone.
+// The same for few cycles, as a step costs: mostly no count ends in them, and then the file is left alone. (No twin of the long move, which it
+// goes on to.)
 pub fn span(m: &mut Machine, n: u32) -> Ends
     requires { Legal m.old }
     ensures { ran_of m.new result ≡ span_of n m.old }

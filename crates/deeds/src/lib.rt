@@ -12,7 +12,8 @@ pub struct Code {
     pub second: u8,
 }
 
-// Two operands: the destination's address and the source's value.
+// Two operands: the destination's address and the source's value. (`operands::Operands` is the code's, with the column's cycles; the definitions
+// speak of this one, which may not change.)
 #[derive(Clone, Copy)]
 pub struct Operands {
     pub dst: u8,

@@ -4,7 +4,7 @@
 
 use clock::Ends;
 use machine::{Machine, Pins, names};
-use numbers::Refusal;
+use numbers::{Refusal, number_of};
 use std::io;
 
 // The places of control registers in a saved machine.
@@ -43,14 +43,6 @@ const HIGH: Pins = Pins {
     port3: 0xFF,
 };
 
-// A refusal's number, or 0 where nothing is refused.
-fn number<T: Copy>(outcome: Result<T, Refusal>) -> u32 {
-    match outcome {
-        Ok(_) => 0,
-        Err(refusal) => refusal.number(),
-    }
-}
-
 // A step of the machine in these bytes, told by R4, R5, FLAGS, the program counter and its cycles.
 fn step_of(rt: &impl Print, name: &str, s: &[u8], image: &[u8]) -> io::Result<()> {
     let Ok(mut m) = saved::load(s) else {
@@ -68,7 +60,7 @@ fn step_of(rt: &impl Print, name: &str, s: &[u8], image: &[u8]) -> io::Result<()
         Ok(done) => done.cycles,
         Err(_) => 0,
     };
-    let refusal = number(stepped);
+    let refusal = number_of(stepped);
     println!(rt;
         "{name}: R4 {r4:02x} R5 {r5:02x} FLAGS {flags:02x} PC {pc:04x} cycles {cycles} refusal {refusal}"
     )
@@ -152,7 +144,7 @@ fn spans(rt: &impl Print) -> io::Result<()> {
 
 // A machine made, or refusal 3.
 fn make(rt: &impl Print, cost: u32) -> io::Result<()> {
-    let refusal = number(Machine::make(11, cost));
+    let refusal = number_of(Machine::make(11, cost));
     println!(rt; "entry cost {cost}: refusal {refusal}")
 }
 
@@ -165,7 +157,7 @@ fn run(rt: &impl Print, budget: u32) -> io::Result<()> {
     let mut mem = [0u8; 1];
     let image = [0xFFu8; 1];
     let ran = step::run(&mut m, HIGH, &image, &mut mem, budget);
-    let refusal = number(ran.ended);
+    let refusal = number_of(ran.ended);
     let cycles = ran.done.cycles;
     println!(rt; "budget {budget}: refusal {refusal}, cycles {cycles}")
 }

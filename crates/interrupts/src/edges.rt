@@ -18,7 +18,7 @@ fn any_fell(last: u8, given: u8) -> bool
     (last % 16) & (15 - given % 16) != 0
 }
 
-// Whether pin n fell.
+// Whether pin n fell. (The pins as they were and as given go side by side in these four: two bytes, which a struct would name no better.)
 #[tactic(auto, unfolding(crate::specs::Edges::fell))]
 fn fell(n: u8, last: u8, given: u8) -> bool
     requires { n < 8 }

@@ -21,7 +21,7 @@ fn vector(image: &[u8], n: u8) -> u16
     requires { n < 6 }
     ensures { result ≡ vector_of image.now n }
 {
-    let at = 2 * n as u16;
+    let at = 2 * u16::from(n);
     let hi = machine::memory::program(image, at);
     let lo = machine::memory::program(image, at + 1);
     word::word(hi, lo)

@@ -5,6 +5,7 @@ ghost use Rattle.word.specs.Fields.{is_set};
 ghost use Rattle.interrupts.specs.Grants.{group_order, priorities, first_standing, granted};
 ghost use Rattle.interrupts.specs.ForCode.{standing_of};
 
+// (Bits by their numbers, as `word::is_set` asks for: what may not change.)
 // The higher of a group's two requests that stands, the second being the higher where the group's bit of IPR is set.
 fn of_group(standing: u8, ipr: u8, order: u8, first: u8, second: u8) -> Option<u8>
     requires order_bound { order < 8 }
@@ -35,6 +36,8 @@ fn of_two(standing: u8, higher: u8, lower: u8) -> Option<u8>
     }
 }
 
+// (A number, as the manual's table has it; two of the eight are unused, and an enum would be made of the number to be matched once: no
+// plainer.)
 fn group_order(ipr: u8) -> u8
     ensures { (result ≡ group_order ipr) × (result < 8) }
 {
@@ -68,7 +71,8 @@ pub fn standing(irq: u8, imr: u8) -> u8
     if word::is_set(7, imr) { irq & imr } else { 0 }
 }
 
-// What is granted, asked at each step. Mostly nothing stands, which is seen without asking IPR.
+// What is granted, asked at each step. Mostly nothing stands, which is seen without asking IPR. (No twin of `highest`, which it
+// goes on to.)
 #[tactic(auto, using(crate::proofs::Orders::granted_standing))]
 pub fn granted(irq: u8, imr: u8, ipr: u8) -> Option<u8>
     ensures { result ≡ granted irq imr ipr }

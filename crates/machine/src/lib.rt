@@ -11,6 +11,9 @@ pub mod start;
 use serial::Port;
 use timers::Timer;
 
+// (`as` is left, here and in the other rooms, where a byte or a word is an index, and where a number is known to fit a narrower type: `TryFrom`
+// would answer an error there that can't be, no plainer.)
+
 // The register file: "256 places in address order" (01).
 pub type File = [u8; numbers::FILE_LENGTH];
 

@@ -5,7 +5,8 @@ ghost use Rattle.machine.specs.ForCode.{reach_of};
 
 use crate::{Bytes, Machine};
 
-// Three bytes of the program, in address order: as many as an instruction has at most.
+// Three bytes of the program, in address order: as many as an instruction has at most. (No `[u8; 3]`, and not `deeds::Code`, which says what
+// they are of an instruction: `program_three` of the definitions has this record, which may not change.)
 #[derive(Clone, Copy)]
 pub struct Triple {
     pub first: u8,
@@ -53,7 +54,8 @@ pub fn program_three(image: &[u8], a: u16) -> Triple
     }
 }
 
-// Where a type's data memory starts.
+// Where a type's data memory starts. (The type is a number, and goes beside the memory: `data_byte` answers for any, which may not change,
+// and the memory is lent apart from the machine that has the type, by the C interface.)
 fn data_start(kind: u8) -> u16
     ensures { result ≡ data_start kind }
 {

@@ -18,6 +18,8 @@ fn masked(mask: u8, a: u8, b: u8) -> u8
     (mask & a) | (!mask & b)
 }
 
+// (The modes of P01M are their fields' numbers: the definitions say that 2 and 3 are one mode, and an enum would be made of the number to
+// be asked the same: no plainer.)
 fn port0_lines(p01m: u8) -> Directions
     ensures { result ≡ port0_directions p01m }
 {

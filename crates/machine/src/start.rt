@@ -94,18 +94,19 @@ pub fn reset(m: Machine) -> Machine
     started_with(file, m.kind, m.cost)
 }
 
-// Whether there is such a type.
+// Whether there is such a type. (This and `is_cost` are no `TryFrom`: docs/PROMISES.md names them, and `saved` asks them of numbers that stay
+// numbers: what may not change.)
 pub fn is_kind(kind: u32) -> bool
     ensures { result ≡ is_kind kind }
 {
-    (kind == Machine::Z8601 as u32) | (kind == Machine::Z8611 as u32)
+    (kind == u32::from(Machine::Z8601)) | (kind == u32::from(Machine::Z8611))
 }
 
 // Whether an interrupt entry may cost so much.
 pub fn is_cost(cost: u32) -> bool
     ensures { result ≡ is_cost cost }
 {
-    (Machine::LEAST_COST as u32 <= cost) & (cost <= Machine::MOST_COST as u32)
+    (u32::from(Machine::LEAST_COST) <= cost) & (cost <= u32::from(Machine::MOST_COST))
 }
 
 impl Machine {

@@ -3,7 +3,7 @@
 #![tactic(auto)]
 
 ghost use Rattle.std.specs.Prelude.{◌≡◌};
-ghost use Rattle.numbers.specs.Numbers.{number_of};
+ghost use Rattle.numbers.specs.Numbers.{number_of, answered};
 
 // 01's table of refusals, and their numbers in it. 0 is answered where nothing is refused.
 #[derive(Clone, Copy, PartialEq, Eq)]
@@ -24,6 +24,16 @@ impl Refusal {
         ensures { result ≡ number_of self }
     {
         self as u32
+    }
+}
+
+// The number that a caller sees of what may be refused: the refusal's, or 0.
+pub fn number_of<T: Copy>(outcome: Result<T, Refusal>) -> u32
+    ensures { result ≡ answered outcome }
+{
+    match outcome {
+        Ok(_) => 0,
+        Err(refusal) => refusal.number(),
     }
 }
 

@@ -141,7 +141,7 @@ pub struct Decoded {
     pub size: u8,
 }
 
-// What an instruction is encoded to: three bytes, unused ones zero, and its length.
+// What an instruction is encoded to: three bytes, unused ones zero, and its length. (No slice: C lends a place for each, the C interface.)
 #[derive(Clone, Copy)]
 pub struct Encoded {
     pub byte0: u8,

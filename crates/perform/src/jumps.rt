@@ -19,7 +19,7 @@ pub fn djnz(m: &mut Machine, pins: Pins, pc: u16, i: Code, o: Operands) -> u32
     ensures { (image mem : List ℕ) → performed m.new mem result ≡ instruction_at pins image mem m.old pc i }
 {
     let here = m.pc;
-    let less = registers::read(m, pins, o.dst).wrapping_add(255);
+    let less = registers::read(m, pins, o.dst).wrapping_sub(1);
     registers::write(m, o.dst, less);
     if less != 0 {
         m.pc = word::moved(here, o.src);
@@ -35,6 +35,7 @@ fn condition(m: &Machine, i: Code) -> bool
     alu::conditions::holds(i.op / 16, doing::flags(m))
 }
 
+// (JR beside JP: a condition, and one assignment that differs; no plainer as one.)
 pub fn jr(m: &mut Machine, pins: Pins, pc: u16, i: Code, o: Operands) -> u32
     requires { At 11 12 pins m.old pc i o }
     ensures { (image mem : List ℕ) → performed m.new mem result ≡ instruction_at pins image mem m.old pc i }

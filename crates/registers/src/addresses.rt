@@ -5,7 +5,8 @@ ghost use Rattle.machine.specs.Addresses.{working_at, register_at, indirect_at, 
 
 use machine::{Machine, Pins, names};
 
-// r: working register x of the group in RP.
+// r: working register x of the group in RP. (x is a nibble, of an opcode or an operand byte: a type of its own would be made of it at each call
+// and read back here, no plainer.)
 #[tactic(auto, unfolding(machine::specs::Addresses::working_at))]
 pub fn working(m: &Machine, x: u8) -> u8
     requires { x < 16 }
@@ -26,7 +27,8 @@ pub fn register(m: &Machine, b: u8) -> u8
     }
 }
 
-// The address or the index found in register a: what it reads, taken as it is.
+// The address or the index found in register a: what it reads, taken as it is. (`read` by the manual's word for what both
+// modes do: no plainer without it.)
 fn found(m: &Machine, pins: Pins, a: u8) -> u8
     ensures { result ≡ read_reg pins m.now a }
 {

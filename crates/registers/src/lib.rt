@@ -97,7 +97,7 @@ fn is_general(a: u8) -> bool
     (0x04 <= a) & (a < 0x80)
 }
 
-// A count in progress as F2 and F4 read it.
+// A count in progress as F2 and F4 read it. (`saved` has its like for a machine's bytes: one expression each, no plainer shared.)
 fn counter(t: Timer) -> u8
     ensures { result ≡ low_byte t.counter }
 {
@@ -120,8 +120,8 @@ pub fn read_any(m: &Machine, pins: Pins, a: u8) -> u8
     }
 }
 
-// What register a reads. (It could be `read_any` alone, and `write` likewise, but for docs/SPEED.md's bars: docs/PROVING.md, "What it runs
-// at".)
+// What register a reads. (No twin of `read_any`, which it goes on to; docs/PROVING.md, "What it runs at", has why both are
+// called.)
 #[tactic(auto, using(machine::proofs::Ranges::general_range, machine::proofs::Ranges::general_reads))]
 pub fn read(m: &Machine, pins: Pins, a: u8) -> u8
     ensures { result ≡ read_reg pins m.now a }

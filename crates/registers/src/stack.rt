@@ -60,13 +60,12 @@ fn write_from(m: &mut Machine, a: u8, b: Bytes)
     }
 }
 
+// (Beside `push_external`: SPL or the pair, registers or data memory; with all four handed over one function is longer than both, no plainer.)
 #[tactic(auto, unfolding(machine::specs::Stack::pushed_internal))]
 fn push_internal(m: &mut Machine, b: Bytes)
     ensures { m.new ≡ (pushed_internal m.old b).machine }
 {
-    let n = count_of(b);
-    let down = (256 - n as u16) as u8;
-    let sp = m.held(names::SPL).wrapping_add(down);
+    let sp = m.held(names::SPL).wrapping_sub(count_of(b));
     m.place(names::SPL, sp);
     write_from(m, sp, b);
 }
@@ -75,9 +74,7 @@ fn push_internal(m: &mut Machine, b: Bytes)
 fn push_external(m: &mut Machine, mem: &mut [u8], b: Bytes)
     ensures { left m.new mem.new ≡ stacked m.old.kind mem.old (pushed_external m.old b) }
 {
-    let n = count_of(b);
-    let down = (65536 - n as u32) as u16;
-    let sp = word::plus(sp_of(m), down);
+    let sp = sp_of(m).wrapping_sub(u16::from(count_of(b)));
     set_sp(m, sp);
     machine::memory::store_bytes(m.kind, mem, sp, b);
 }
@@ -102,7 +99,7 @@ pub fn byte_at(m: &Machine, pins: Pins, mem: &[u8], i: u8) -> u8
     if is_internal(m) {
         return crate::read(m, pins, m.held(names::SPL).wrapping_add(i));
     }
-    let a = word::plus(sp_of(m), i as u16);
+    let a = word::plus(sp_of(m), u16::from(i));
     machine::memory::load(m.kind, mem, a)
 }
 
@@ -114,6 +111,6 @@ pub fn raise(m: &mut Machine, n: u8)
     if is_internal(m) {
         m.place(names::SPL, m.held(names::SPL).wrapping_add(n));
     } else {
-        set_sp(m, word::plus(sp_of(m), n as u16));
+        set_sp(m, word::plus(sp_of(m), u16::from(n)));
     }
 }

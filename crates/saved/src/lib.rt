@@ -15,7 +15,7 @@ use numbers::Refusal;
 use serial::{Port, Receiver, Transmitter};
 use timers::Timer;
 
-// The bytes of a saved machine.
+// The bytes of a saved machine. (Those behind the file go by their numbers below: include/z8.h says which byte is what, the C interface.)
 type Saved = [u8; numbers::SAVED_LENGTH];
 
 // The bytes of the register file, which are the first.
@@ -268,7 +268,7 @@ fn rest_of(m: Machine) -> [u8; 20]
 }
 
 // A machine into its 276 bytes.
-// (A slice and no `Saved`: `save` asks no more of its callers than its `requires`.)
+// (A slice and no `Saved`: C lends one, of any length, and z8 has it in hand here and in `leave`: the C interface.)
 #[tactic(auto, unfolding(crate::specs::Saved::saved_of))]
 pub fn save(saved: &mut [u8], m: Machine)
     requires { length saved.old ≡ saved_length }

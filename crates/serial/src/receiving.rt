@@ -53,7 +53,7 @@ impl Receiver {
     {
         let before = self.awaited - 2;
         let gone = 16 * before + self.ends;
-        let d = gone as u64 + n as u64;
+        let d = u64::from(gone) + u64::from(n);
         if d < 128 {
             let at = d as u8;
             let bits = at / 16;
@@ -85,7 +85,7 @@ impl Receiver {
         if 1 < self.awaited {
             return self.hear_data(m, n);
         }
-        let d = self.ends as u64 + n as u64;
+        let d = u64::from(self.ends) + u64::from(n);
         if d < 8 {
             return unasked(Receiver {
                 ends: d as u8,

@@ -21,6 +21,7 @@ fn block(m: &mut Machine, pins: Pins, dst: u8, v: u8, r: u8, rr: u8)
     doing::count_up(m, pins, r, rr);
 }
 
+// (LDE and LDC, and their like, stand apart though they read alike: with the memory handed over as a closure each arm is longer, no plainer.)
 pub fn singles(
     m: &mut Machine,
     pins: Pins,

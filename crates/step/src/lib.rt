@@ -16,7 +16,8 @@ use clock::Ends;
 use machine::{Machine, Pins, names};
 use numbers::Refusal;
 
-// What whole steps come to in numbers.
+// What whole steps come to in numbers. (Not the cycles beside a `clock::Ends`: the definitions of a step and a run have all three by name,
+// side by side, so that it is no plainer.)
 #[derive(Clone, Copy)]
 pub struct Tally {
     pub cycles: u32,
@@ -49,7 +50,7 @@ fn act(m: &mut Machine, pins: Pins, image: &[u8], mem: &mut [u8]) -> Result<u32,
     match interrupts::grants::granted(irq, imr, ipr) {
         None => perform::execute_here(m, pins, mem, image),
         Some(n) => {
-            let cost = m.cost as u32;
+            let cost = u32::from(m.cost);
             interrupts::entry::enter(m, mem, image, n);
             Ok(cost)
         }

@@ -17,7 +17,7 @@ use Rattle.timers.specs.declared.Setup.{Setup}
 use Rattle.timers.specs.declared.Counting.{Counting}
 use Rattle.timers.specs.declared.Ticked.{Ticked}
 use Rattle.word.proofs.Iterate.{iter_zero, iter_suc, iter_split, iter_fixed}
-use Rattle.timers.specs.ForCode.{more, ticks, few_to, shortly, turned_of, few_of}
+use Rattle.timers.specs.ForCode.{more, ticks, few_to, short_of, turned_of, few_of}
 use Rattle.timers.specs.declared.Timer.{Timer}
 
 -- the timer at other counts, with `e` ends behind it
@@ -192,8 +192,8 @@ ticks_few by s c k ls lc =
     Come o = IfSome o (λ t. ticks by s k c ≡ at c t.prescaler t.counter 0)
 
 -- short, and not short, with what it takes
-pub few_shortly : (moving : Bool) (p k : ℕ) (t u : Timer) → shortly moving k t ≡ Some u → few_of moving p k t ≡ Some u
-unfolding few_of shortly
+pub few_shortly : (moving : Bool) (p k : ℕ) (t u : Timer) → short_of moving k t ≡ Some u → few_of moving p k t ≡ Some u
+unfolding few_of short_of
 few_shortly moving p k t u = go moving (ltb k t.prescaler)
   where
     go : (a b : Bool) → pick a (pick b (few_to (t.prescaler - k) t.counter) None) (Some t) ≡ Some u
@@ -202,8 +202,8 @@ few_shortly moving p k t u = go moving (ltb k t.prescaler)
     go true false e = absurd (none-some _ e)
     go false b e = e
 
-pub few_turned : (moving : Bool) (p k : ℕ) (t : Timer) → shortly moving k t ≡ None → few_of moving p k t ≡ turned_of p k t
-unfolding few_of shortly
+pub few_turned : (moving : Bool) (p k : ℕ) (t : Timer) → short_of moving k t ≡ None → few_of moving p k t ≡ turned_of p k t
+unfolding few_of short_of
 few_turned moving p k t = go moving (ltb k t.prescaler)
   where
     go : (a b : Bool) → pick a (pick b (few_to (t.prescaler - k) t.counter) None) (Some t) ≡ None
@@ -212,8 +212,8 @@ few_turned moving p k t = go moving (ltb k t.prescaler)
     go true false e = refl
     go false b e = absurd (none-some _ (sym e))
 
-pub not_short : (moving : Bool) (k : ℕ) (t : Timer) → shortly moving k t ≡ None → t.prescaler ≤ k
-unfolding shortly
+pub not_short : (moving : Bool) (k : ℕ) (t : Timer) → short_of moving k t ≡ None → t.prescaler ≤ k
+unfolding short_of
 not_short moving k t = go moving (ltb k t.prescaler) refl
   where
     go : (a b : Bool) → ltb k t.prescaler ≡ b → pick a (pick b (few_to (t.prescaler - k) t.counter) None) (Some t) ≡ None → t.prescaler ≤ k
@@ -221,8 +221,8 @@ not_short moving k t = go moving (ltb k t.prescaler) refl
     go true false h e = ltb-false _ _ h
     go false b h e = absurd (none-some _ (sym e))
 
-pub is_moving : (moving : Bool) (k : ℕ) (t : Timer) → shortly moving k t ≡ None → moving ≡ true
-unfolding shortly
+pub is_moving : (moving : Bool) (k : ℕ) (t : Timer) → short_of moving k t ≡ None → moving ≡ true
+unfolding short_of
 is_moving true k t e = refl
 is_moving false k t e = absurd (none-some _ (sym e))
 
@@ -237,12 +237,12 @@ gone_round p k t = go (ltb (k - t.prescaler) (p * (t.counter - 1))) refl
     go false g e = ltb-false _ _ g
 
 pub ticks_short : (by : Source) (s : Setup) (c : Counting) (k : ℕ) (t : Timer) → LegalSetup s → LegalCounting c
-    → shortly (moves by s c) k c.timer ≡ Some t → ticks by s k c ≡ at c t.prescaler t.counter 0
+    → short_of (moves by s c) k c.timer ≡ Some t → ticks by s k c ≡ at c t.prescaler t.counter 0
 ticks_short by s c k t ls lc e =
     MatchOption-at_some _ _ t (few_shortly (moves by s c) s.p k c.timer t e) (ticks_few by s c k ls lc)
 
 pub ticks_turned : (by : Source) (s : Setup) (c : Counting) (k : ℕ) (t : Timer) → LegalSetup s → LegalCounting c
-    → shortly (moves by s c) k c.timer ≡ None → turned_of s.p k c.timer ≡ Some t → ticks by s k c ≡ at c t.prescaler t.counter 0
+    → short_of (moves by s c) k c.timer ≡ None → turned_of s.p k c.timer ≡ Some t → ticks by s k c ≡ at c t.prescaler t.counter 0
 ticks_turned by s c k t ls lc e f =
     MatchOption-at_some _ _ t (few_turned (moves by s c) s.p k c.timer e ∙ f) (ticks_few by s c k ls lc)
 

@@ -33,8 +33,8 @@ down c p rounds r = count_at c (p - r % p) (rounds - r / p)
 abbrev pub few_to : ℕ → ℕ → Option Timer
 few_to prescaler counter = Some (record { prescaler = prescaler; counter = counter })
 
-unfoldable pub shortly : Bool → ℕ → Timer → Option Timer
-shortly moving k t = pick moving (pick (ltb k t.prescaler) (few_to (t.prescaler - k) t.counter) None) (Some t)
+unfoldable pub short_of : Bool → ℕ → Timer → Option Timer
+short_of moving k t = pick moving (pick (ltb k t.prescaler) (few_to (t.prescaler - k) t.counter) None) (Some t)
 
 unfoldable pub turned_of : ℕ → ℕ → Timer → Option Timer
 turned_of p k t =

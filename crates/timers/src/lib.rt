@@ -9,6 +9,7 @@ mod ticks;
 
 use serial::{Mode, Port};
 
+// (Control and Moving go side by side: what is read and what is moved; one struct would say that a move moves both.)
 // All that the timers and the serial port read: the control registers F1 to F5 and P3M in address order, and the last Port 3 pins. Of
 // TMR the cycles read the modes alone; its enable bits, which an end may clear, are with what moves, and are put back into TMR's place by who keeps it.
 #[derive(Clone, Copy)]
@@ -22,8 +23,8 @@ pub struct Control {
     pub port3: u8,
 }
 
-// What is legal stands in `requires` and not in the types: `setup_of` makes a `Setup` of any numbers, `clock::write_tmr` takes any `Moving`,
-// and neither may change.
+// What is legal stands in `requires` and not in the types: `clock::write_tmr` takes any `Moving`, which may not change; and of
+// the three that ask it of a `Setup` two ask it of a count or of the port too, whose clauses would stay (no plainer).
 
 // Where a tick comes from: the divider, or the falling edges of P31.
 #[derive(Clone, Copy)]
@@ -98,7 +99,8 @@ pub struct Moving {
     pub lines: Lines,
 }
 
-// The same after some cycles, with each timer's ends.
+// The same after some cycles, with each timer's ends. (By two names, as include/z8.h has them and the definitions say of each: no plainer
+// as a pair or an array.)
 #[derive(Clone, Copy)]
 pub struct Spanned {
     pub moving: Moving,

@@ -5,12 +5,13 @@ ghost use Rattle.timers.specs.Control.{or_highest, setup_of, internal, tin_mode,
 use crate::{Control, Setting, Setup};
 use serial::Mode;
 
-// A count whose field 0 stands for the highest: a prescaler field, a start byte, a saved counter.
+// A count whose field 0 stands for the highest: a prescaler field, a start byte, a saved counter. (The library has `NonZero` and an
+// `Option` for it, and back: no plainer.)
 #[tactic(auto, unfolding(crate::specs::Control::or_highest))]
 pub fn or_highest(top: u32, field: u8) -> u32
     ensures { result ≡ or_highest top field }
 {
-    if field == 0 { top } else { field as u32 }
+    if field == 0 { top } else { u32::from(field) }
 }
 
 #[tactic(auto, unfolding(crate::specs::Control::setup_of))]
@@ -28,7 +29,8 @@ fn setup(pre: u8, start: u8, divider: bool, edges: bool, request: u8, drives: bo
     }
 }
 
-// The mode is its field's number, and no enum, because the definition says it of a number (`divider_moves_t1`), which may not change.
+// The mode, as T_OUT's in `setting`, is its field's number, and no enum: it would be made of the number at each call and asked once, no
+// plainer.
 #[tactic(auto, unfolding(crate::specs::Control::divider_moves_t1))]
 fn divider_moves_t1(internal: bool, mode: u8, high: bool) -> bool
     ensures { result ≡ divider_moves_t1 internal mode high }

@@ -2,7 +2,7 @@
 ghost use Rattle.std.specs.Prelude.{◌≡◌, ◌*◌, ◌/◌, ◌≤◌, ◌<◌};
 ghost use Rattle.timers.specs.Control.{or_highest};
 ghost use Rattle.timers.specs.Timer.{count_at, takes, moves, stopped, timer_written, LegalSetup, LegalCounting};
-ghost use Rattle.timers.specs.ForCode.{down, shortly, turned_of, few_of, ticks};
+ghost use Rattle.timers.specs.ForCode.{down, short_of, turned_of, few_of, ticks};
 
 use crate::{Counting, Setup, Source, Ticked, Timer};
 
@@ -84,9 +84,9 @@ fn turned(p: u32, c: Counting, k: u32) -> Option<Timer>
 }
 
 // k ticks that stay within this round of the prescaler, or don't move the timer: the count after them.
-#[tactic(auto, unfolding(crate::specs::ForCode::shortly))]
+#[tactic(auto, unfolding(crate::specs::ForCode::short_of))]
 fn shortly(moving: bool, c: Counting, k: u32) -> Option<Timer>
-    ensures { result ≡ shortly moving k c.timer }
+    ensures { result ≡ short_of moving k c.timer }
 {
     if !moving {
         return Some(c.timer);

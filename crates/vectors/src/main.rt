@@ -53,24 +53,16 @@ fn packed(length: u8, op: u8, a: u8, b: u8) -> u32 {
 }
 
 fn decoding(i: u32) -> u32 {
-    let decoded = opcodes::instruction::decode(
-        (i / 65536 % 256) as u8,
-        (i / 256 % 256) as u8,
-        (i % 256) as u8,
-    );
-    match decoded {
+    let [_, op, a, b] = i.to_be_bytes();
+    match opcodes::instruction::decode(op, a, b) {
         Ok(d) => packed(d.size, d.op, d.first, d.second),
         Err(refusal) => refusal.number(),
     }
 }
 
 fn encoding(i: u32) -> u32 {
-    let encoded = opcodes::instruction::encode(
-        (i / 65536 % 256) as u8,
-        (i / 256 % 256) as u8,
-        (i % 256) as u8,
-    );
-    match encoded {
+    let [_, op, a, b] = i.to_be_bytes();
+    match opcodes::instruction::encode(op, a, b) {
         Ok(e) => packed(e.size, e.byte0, e.byte1, e.byte2),
         Err(refusal) => refusal.number(),
     }

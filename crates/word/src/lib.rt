@@ -1,4 +1,5 @@
-// Bytes and words, with no chip in them.
+// Bytes and words, with no chip in them. Where a library's method does the same, the name of 01 and of the definitions stands over it:
+// docs/PROMISES.md names each (what may not change).
 #![tactic(auto)]
 
 ghost use Rattle.std.specs.Prelude.{◌≡◌, ◌<◌, ◌≤◌};

@@ -12,19 +12,9 @@ ghost use Rattle.z8.specs.Calls.{answer, lent, lent_span, four, pins_given, imag
 ghost use Rattle.z8.specs.ForCode.{admitted_of, decoded_at};
 
 use machine::{Machine, Pins};
-use numbers::Refusal;
+use numbers::{Refusal, number_of};
 use opcodes::Decoded;
 use step::Tally;
-
-// The number that a caller sees: a refusal's, or 0 where nothing is refused.
-fn number_of<T: Copy>(outcome: Result<T, Refusal>) -> u32
-    ensures { result ≡ answered outcome }
-{
-    match outcome {
-        Ok(_) => 0,
-        Err(refusal) => refusal.number(),
-    }
-}
 
 // Which version of the library is linked.
 #[unsafe(no_mangle)]
@@ -51,7 +41,7 @@ fn make_in(saved: &mut [u8], kind: u32, cost: u32) -> Result<(), Refusal>
     Ok(())
 }
 
-// A new machine where nothing is named: 7.
+// A new machine where nothing is named: 7. (Beside `z8_make`, and `z8_run` beside `z8_step`: include/z8.h has each, the C interface.)
 #[unsafe(no_mangle)]
 pub extern "C" fn z8_make_default(saved: &mut [u8]) -> u32
     ensures { answer result saved.new ≡ make_default_of saved.old }
@@ -158,7 +148,8 @@ fn image_refusal(image: &[u8]) -> Result<(), Refusal>
     }
 }
 
-// Refusal 2 where the data memory is too long.
+// Refusal 2 where the data memory is too long. (Beside `image_refusal`: with the limit and the refusal handed to it one function is as long,
+// and each call says more: no plainer.)
 fn memory_refusal(memory: &[u8]) -> Result<(), Refusal>
     ensures { answered result ≡ memory_refusal memory.now }
 {
@@ -194,7 +185,8 @@ fn pins_given(pins0: u8, pins1: u8, pins2: u8, pins3: u8) -> Pins
 }
 
 // What steps came to, in the places lent; the data memory has it already.
-// (C lends the numbers one by one, so no struct holds their places.)
+// (C lends the numbers one by one, so no struct holds their places, and the machine's bytes as a slice, so that its length is required here:
+// the C interface.)
 fn leave(
     m: Machine,
     done: Tally,
@@ -283,6 +275,7 @@ fn run_in(
     ensures { answer (answered result) (lent saved.new memory.new cycles.new ends0.new ends1.new) ≡ run_call_of pins image.now budget (lent saved.old memory.old cycles.old ends0.old ends1.old) }
 {
     let mut m = admitted(saved, image, memory)?;
+    // `step::run` asks it too, but with 4 nothing lent is written, and what a run ends with is
     if numbers::BUDGET_MOST < budget {
         return Err(Refusal::Budget);
     }

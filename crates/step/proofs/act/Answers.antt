@@ -18,4 +18,4 @@ pub returns-in-Some : goal.returns-in-Some
 unfolding granted_or grant_of
 returns-in-Some c =
     let grant_is = rw (c.held-ipr.ensures, c.held-imr.ensures, c.held-irq.ensures) at c.granted.ensures in
-    rw (← grant_is, c.in-Some.is) (entered_left c.args.pins _ _ _ _ _ c.enter.ensures)
+    rw (← grant_is, c.in-Some.is, c.from-cost.ensures) (entered_left c.args.pins _ _ _ _ _ c.enter.ensures)
