@@ -275,7 +275,7 @@ fn run_in(
     ensures { answer (answered result) (lent saved.new memory.new cycles.new ends0.new ends1.new) ≡ run_call_of pins image.now budget (lent saved.old memory.old cycles.old ends0.old ends1.old) }
 {
     let mut m = admitted(saved, image, memory)?;
-    // `step::run` asks it too, but with 4 nothing lent is written, and what a run ends with is
+    // asked here, before `step::run` asks it: with 4 nothing that is lent is written, where `leave` writes what a run came to
     if numbers::BUDGET_MOST < budget {
         return Err(Refusal::Budget);
     }
