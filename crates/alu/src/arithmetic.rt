@@ -118,7 +118,7 @@ pub fn dec(a: u8) -> Outcome<u8>
 pub fn incw(w: u16) -> Outcome<u16>
     ensures { result ≡ incw_of w }
 {
-    let value = w.wrapping_add(1);
+    let value = word::plus(w, 1);
     counted(
         value,
         value == 0,
@@ -130,7 +130,7 @@ pub fn incw(w: u16) -> Outcome<u16>
 pub fn decw(w: u16) -> Outcome<u16>
     ensures { result ≡ decw_of w }
 {
-    let value = w.wrapping_sub(1);
+    let value = word::plus(w, 65535);
     counted(
         value,
         value == 0,

@@ -9,7 +9,7 @@ use Rattle.word.specs.Words.{plus}
 use Rattle.word.proofs.Computed.{by_test}
 use Rattle.timers.specs.Clock.{written}
 use Rattle.word.proofs.Iterate.{iter_keeps}
-use Rattle.machine.specs.State.{placed_in, whole, placed, with_released, with_port, with_transmitter}
+use Rattle.machine.specs.State.{placed, with_released, with_port, with_transmitter}
 use Rattle.machine.specs.Clock.{moving_of, counts_at, moved_to, write_tmr, Ran, shown, cycle_of, span_of}
 use Rattle.machine.specs.Serial.{write_sio}
 use Rattle.machine.proofs.Sio.{sio_either}
@@ -19,7 +19,6 @@ use Rattle.machine.specs.Addresses.{even_of, write_pair}
 use Rattle.machine.specs.Memory.{list_of}
 use Rattle.machine.specs.Stack.{Stacked, is_internal, spl, sp_of, sp_set, written_from, pushed_internal, pushed_external, pushed, raised}
 use Rattle.machine.specs.declared.Machine.{Machine}
-use Rattle.machine.specs.State.{Core}
 use Rattle.machine.specs.declared.Bytes.{Bytes}
 
 -- n has what m has where no store moves it

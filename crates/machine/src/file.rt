@@ -1,20 +1,19 @@
 // The places of the register file.
 ghost use Rattle.std.specs.Prelude.{◌≡◌};
-ghost use Rattle.machine.specs.State.{held, placed};
+ghost use Rattle.machine.specs.State.{held_in, placed_in};
 
-use crate::Machine;
+use crate::File;
 
-impl Machine {
-    // What the place of register a holds. This method and the next, and `reset_places`, alone look up a place by its register's address.
-    pub fn held(&self, a: u8) -> u8
-        ensures { result ≡ held self.now a }
-    {
-        self.regs[a as usize]
-    }
+// What the place of register a holds. This function and the next alone look up a place by its register's address.
+pub fn held(regs: &File, a: u8) -> u8
+    ensures { result ≡ held_in regs.now a }
+{
+    let i = a as usize;
+    regs[i]
+}
 
-    pub fn place(&mut self, to: u8, v: u8)
-        ensures { self.new ≡ placed self.old to v }
-    {
-        self.regs[to as usize] = v;
-    }
+pub fn place(regs: &mut File, a: u8, v: u8)
+    ensures { regs.new ≡ placed_in regs.old a v }
+{
+    regs[a as usize] = v;
 }

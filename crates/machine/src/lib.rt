@@ -8,6 +8,9 @@ pub mod names;
 pub mod ports;
 pub mod start;
 
+ghost use Rattle.std.specs.Prelude.{◌≡◌};
+ghost use Rattle.machine.specs.State.{held, placed};
+
 use serial::Port;
 use timers::Timer;
 
@@ -34,6 +37,22 @@ pub struct Machine {
     pub cost: u8,
     pub released: bool,
     pub port: Port,
+}
+
+// The places of its register file.
+impl Machine {
+    pub fn held(&self, a: u8) -> u8
+        ensures { result ≡ held self.now a }
+    {
+        file::held(&self.regs, a)
+    }
+
+    #[tactic(auto, unfolding(crate::specs::State::placed))]
+    pub fn place(&mut self, to: u8, v: u8)
+        ensures { self.new ≡ placed self.old to v }
+    {
+        file::place(&mut self.regs, to, v);
+    }
 }
 
 // The pins of ports 0 to 3, as given with a call. They are no part of the machine.

@@ -57,7 +57,7 @@ fn reset_places(regs: &mut File)
     ensures { regs.new ≡ placed_all regs.old reset_places }
 {
     for &(a, v) in &RESET_PLACES {
-        regs[a as usize] = v;
+        crate::file::place(regs, a, v);
     }
 }
 

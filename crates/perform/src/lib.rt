@@ -28,8 +28,8 @@ pub fn perform(
 {
     let o = operands::columns::operands(m, pins, pc, i);
     match i.op % 16 {
-        0..=1 => Ok(one_operand::one(m, pins, mem, pc, i, o)),
-        2..=7 => two_operands::two(m, pins, mem, image, pc, i, o),
+        0 | 1 => Ok(one_operand::one(m, pins, mem, pc, i, o)),
+        2 | 3 | 4 | 5 | 6 | 7 => two_operands::two(m, pins, mem, image, pc, i, o),
         // three arms, as three columns load: one arm's proof would tell them apart again, and be no plainer
         8 => {
             registers::write(m, o.dst, o.src);

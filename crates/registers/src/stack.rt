@@ -74,7 +74,8 @@ fn push_internal(m: &mut Machine, b: Bytes)
 fn push_external(m: &mut Machine, mem: &mut [u8], b: Bytes)
     ensures { left m.new mem.new ≡ stacked m.old.kind mem.old (pushed_external m.old b) }
 {
-    let sp = sp_of(m).wrapping_sub(u16::from(count_of(b)));
+    let down = 65536 - u32::from(count_of(b));
+    let sp = word::plus(sp_of(m), down as u16);
     set_sp(m, sp);
     machine::memory::store_bytes(m.kind, mem, sp, b);
 }

@@ -7,7 +7,7 @@ use Rattle.word.specs.Words.{disp_of, moved_by}
 abbrev at8 : ℤ → ℤ
 at8 d = to_z w8 (of_z w8 d)
 
-abbrev at16 : ℤ → ℤ
+abbrev pub at16 : ℤ → ℤ
 at16 d = to_z w16 (of_z w16 d)
 
 -- a byte read as a signed number, in 16 bits

@@ -84,5 +84,5 @@ pub fn displacement(b: u8) -> i16
 pub fn moved(w: u16, b: u8) -> u16
     ensures { result ≡ moved_by w (disp_of b) }
 {
-    w.wrapping_add_signed(displacement(b))
+    plus(w, displacement(b).cast_unsigned())
 }

@@ -1,5 +1,5 @@
 // What a C program calls (include/z8.h). Any lengths, bytes and numbers get an answer: nothing is required here. What a caller lends
-// is loaded, handed to the rooms below by value, and saved again; a refused call returns before it writes.
+// is loaded, lent to the rooms below, and saved again; a refused call returns before it writes.
 #![tactic(auto)]
 
 ghost use Rattle.std.specs.Prelude.{◌≡◌, List, ℕ, Ok, IfOk, IsOkUnless, length};

@@ -49,11 +49,11 @@ returns-in-14 c =
     let asked = in_column 14 _ c.in-14.is (c.operands-o.ensures.value, c.operands-o.ensures.next) in
     elsewhere _ _ _ _ _ _ _ _ _ c.operands-o.ensures.next (rw (c.store.ensures, c.inc.ensures, c.read-was.ensures) (inc_column _ _ (search rules) asked))
 
-pub returns-in-0-to-1 : goal.returns-in-0-to-1
-returns-in-0-to-1 c = elsewhere _ _ _ _ _ _ _ _ _ c.operands-o.ensures.next (c.one.ensures _)
+pub returns-in-0 : goal.returns-in-0
+returns-in-0 c = elsewhere _ _ _ _ _ _ _ _ _ c.operands-o.ensures.next (c.one.ensures _)
 
-pub returns-in-2-to-7 : goal.returns-in-2-to-7
-returns-in-2-to-7 c = elsewhere _ _ _ _ _ _ _ _ _ c.operands-o.ensures.next c.two.ensures
+pub returns-in-2 : goal.returns-in-2
+returns-in-2 c = elsewhere _ _ _ _ _ _ _ _ _ c.operands-o.ensures.next c.two.ensures
 
 pub returns-in_default : goal.returns-in_default
 returns-in_default c = elsewhere _ _ _ _ _ _ _ _ _ c.operands-o.ensures.next (c.alone.ensures _)

@@ -1,4 +1,4 @@
-use Rattle.std.proofs.Common.{◌≡◌, ◌<◌, arith, rules}
+use Rattle.std.proofs.Common.{◌≡◌, arith, rules}
 use Rattle.word.specs.Fields.{lower}
 use Rattle.opcodes.specs.Map.{entry_of, opcode_map}
 use Rattle.operands.proofs.Arms.{blank_is_refused}

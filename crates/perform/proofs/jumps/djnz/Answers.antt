@@ -1,4 +1,4 @@
-use Rattle.std.proofs.Common.{ℕ, ◌+◌, ◌%◌, ◌<◌, true, false, not, ap, rules, eq-eqb, ne_eqb}
+use Rattle.std.proofs.Common.{ℕ, ◌+◌, ◌%◌, true, false, not, ap, rules, eq-eqb, ne_eqb}
 use Rattle.machine.specs.State.{with_pc}
 use Rattle.execute.specs.Doing.{jumped}
 use Rattle.perform.proofs.Arms.{djnz_arm}

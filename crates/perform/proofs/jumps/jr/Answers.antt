@@ -1,4 +1,4 @@
-use Rattle.std.proofs.Common.{◌<◌, true, false, sym, ◌∙◌, rules}
+use Rattle.std.proofs.Common.{true, false, sym, ◌∙◌, rules}
 use Rattle.machine.specs.State.{with_pc}
 use Rattle.execute.specs.Doing.{jumped}
 use Rattle.perform.proofs.Arms.{jr_arm}
