@@ -81,6 +81,7 @@ pub fn displacement(b: u8) -> i16
 }
 
 // w moved by an operand byte's displacement.
+#[tactic(auto, using(crate::proofs::Bytes::moves))]
 pub fn moved(w: u16, b: u8) -> u16
     ensures { result ≡ moved_by w (disp_of b) }
 {
